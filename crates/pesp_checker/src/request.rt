@@ -10,7 +10,7 @@ use pesp_problem::MOST_PERIOD;
 pub(crate) const USAGE: &str = "\
 usage: pesp_checker [--sharp] [--period N] FILE < CERTIFICATE
 Says whether the certificate is valid for the instance in FILE, as `pesp check` does.
-With --sharp it may have a front of marked walks.
+With --sharp it may have a front of marked walks and lemmas.
 N is the period, 1 to 10000, in the unit of the durations; 60 where none is given.
 Exit status: 0 accepted; 1 refused; 2 the command line; 3 a text is refused; 4 memory
 or a device

@@ -60,7 +60,7 @@ impl Pieces {
     pub(crate) fn new(alloc: Global) -> Pieces {
         Pieces {
             piece: Piece::Nothing,
-            work: Work::none(),
+            work: Work::first(0),
             soft: None,
             groups: None,
             met: Vec::new(alloc),

@@ -161,7 +161,7 @@ impl Search {
 
     /// The work of the first batch; no timetable with spans held where it has less.
     pub(crate) fn first_work(&self, network: &Network) -> Work {
-        let work = Work::first(network);
+        let work = Work::first(network.rows().len());
         if self.is_lighter(network) {
             Work {
                 fours: 0,

@@ -1,7 +1,6 @@
 //! How much work a batch is.
 
-use pesp_network::Network;
-use pesp_soft_times::{MANY_ROWS, is_dense, may_merge};
+use pesp_soft_times::{MANY_ROWS, may_merge};
 
 /// How many individuals, in fours, and how many fours while they are close to the search in which spans may be broken; how many
 /// fours come before that one; how many rounds an anneal has; and how many balls in turn may find nothing behind each merge.
@@ -47,23 +46,11 @@ pub(crate) fn is_near(rows: usize, cost: u64, least: u64) -> bool {
 }
 
 impl Work {
-    /// No work.
-    pub(crate) fn none() -> Work {
-        Work {
-            fours: 0,
-            close: 0,
-            before_soft: 0,
-            rounds: 0,
-            balls: 0,
-        }
-    }
-
     /// The work before the first step.
-    pub(crate) fn first(network: &Network) -> Work {
-        let (fours, close, before_soft, rounds, balls) = match network.rows().len() {
+    pub(crate) fn first(rows: usize) -> Work {
+        let (fours, close, before_soft, rounds, balls) = match rows {
             0..=300 => (8, 8, 2, 20, 3),
             301..=400 => (3, 3, 2, 20, 3),
-            401..=700 if is_dense(network) => (1, 2, 1, 20, 3),
             401..=700 => (2, 2, 2, 20, 3),
             701..=FEW => (1, 3, 0, 8, 2),
             2_501..=30_000 => (1, 1, 0, 8, 2),

@@ -11,8 +11,7 @@ pub mod Lemmas
 pub mod LemmaItems
 pub mod LemmaSteps
 pub mod Passed
-pub mod Refusing
+pub mod Behind
 pub mod LemmaCheck
 pub mod Valid
 pub mod OwnWeights
-pub mod Claims

@@ -6,4 +6,3 @@ pub mod Views
 pub mod Said
 pub mod Inner
 pub mod Costs
-pub mod Rooms

@@ -1,3 +1,2 @@
 pub mod ReadingLemmas
 pub mod Causes
-mod Texts

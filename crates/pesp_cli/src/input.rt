@@ -8,7 +8,7 @@ const KEPT: usize = 24;
 
 /// Which line of a certificate comes next: its first one, one at which its period may stand, or one that is passed over.
 #[derive(Clone, Copy, PartialEq, Eq, Drop)]
-enum NextHeader {
+enum Next {
     First,
     Period,
     Other,
@@ -16,20 +16,20 @@ enum NextHeader {
 
 /// The period of a certificate, looked for line by line. In version 3 marked walks stand before it.
 #[derive(Drop)]
-struct PeriodScan {
+struct Kept {
     line: [u8; KEPT],
     count: usize,
-    next: NextHeader,
+    next: Next,
     period: Option<u32>,
 }
 
-impl PeriodScan {
+impl Kept {
     /// Nothing is read yet.
-    fn new() -> PeriodScan {
-        PeriodScan {
+    fn new() -> Kept {
+        Kept {
             line: [0; KEPT],
             count: 0,
-            next: NextHeader::First,
+            next: Next::First,
             period: None,
         }
     }
@@ -37,7 +37,7 @@ impl PeriodScan {
     /// Takes what comes next, until the period is found or can't stand there any more.
     fn add(&mut self, bytes: &[u8]) {
         for byte in bytes {
-            if self.next == NextHeader::Other {
+            if self.next == Next::Other {
                 return;
             }
             self.add_byte(*byte);
@@ -57,7 +57,7 @@ impl PeriodScan {
     /// Takes the line that is read.
     fn end_line(&mut self) {
         let line = str::from_utf8(self.line.get(..self.count).unwrap_or(b"")).unwrap_or("");
-        if self.next == NextHeader::Period {
+        if self.next == Next::Period {
             self.period = period_in(line);
         }
         self.next = next_behind(self.next, line);
@@ -71,13 +71,13 @@ fn period_in(line: &str) -> Option<u32> {
 }
 
 /// What comes behind a line of a certificate.
-fn next_behind(next: NextHeader, line: &str) -> NextHeader {
+fn next_behind(next: Next, line: &str) -> Next {
     let is_first = line.starts_with("pesp-certificate ");
     let is_front = line.starts_with("scale ") || line.starts_with("walk ");
     match next {
-        NextHeader::First if is_first => NextHeader::Period,
-        NextHeader::Period if is_first || is_front => NextHeader::Period,
-        _ => NextHeader::Other,
+        Next::First if is_first => Next::Period,
+        Next::Period if is_first || is_front => Next::Period,
+        _ => Next::Other,
     }
 }
 
@@ -85,7 +85,7 @@ fn next_behind(next: NextHeader, line: &str) -> NextHeader {
 #[derive(Drop)]
 pub(crate) struct Beginning<S> {
     inner: S,
-    kept: PeriodScan,
+    kept: Kept,
 }
 
 impl<S: Read> Beginning<S> {
@@ -93,7 +93,7 @@ impl<S: Read> Beginning<S> {
     pub(crate) fn of(inner: S) -> Beginning<S> {
         Beginning {
             inner,
-            kept: PeriodScan::new(),
+            kept: Kept::new(),
         }
     }
 

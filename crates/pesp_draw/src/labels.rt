@@ -13,14 +13,14 @@ pub struct Labels<'a> {
 
 /// What an event is called in a column.
 #[derive(Clone, Copy, Drop)]
-pub struct ColumnLabel<'a> {
+pub struct Called<'a> {
     label: i64,
     name: &'a str,
 }
 
 /// An event's label, with its name behind it where that is known.
 #[derive(Clone, Copy, Drop)]
-pub struct WholeLabel<'a> {
+pub struct Whole<'a> {
     label: i64,
     name: &'a str,
 }
@@ -43,19 +43,19 @@ impl<'a> Labels<'a> {
     }
 
     /// What an event is called in a column.
-    pub fn called(&self, label: i64) -> ColumnLabel<'a> {
+    pub fn called(&self, label: i64) -> Called<'a> {
         let name = self.name(label);
-        ColumnLabel { label, name }
+        Called { label, name }
     }
 
     /// An event's label, with its name.
-    pub fn whole(&self, label: i64) -> WholeLabel<'a> {
+    pub fn whole(&self, label: i64) -> Whole<'a> {
         let name = self.name(label);
-        WholeLabel { label, name }
+        Whole { label, name }
     }
 }
 
-impl ColumnLabel<'_> {
+impl Called<'_> {
     /// How many characters it takes, where the label takes so many.
     pub fn characters(&self, label: u32) -> u32 {
         if self.name.is_empty() {
@@ -65,9 +65,9 @@ impl ColumnLabel<'_> {
     }
 }
 
-impl fmt::Display for ColumnLabel<'_> {
+impl fmt::Display for Called<'_> {
     fn fmt<W: fmt::Write>(&self, f: &mut fmt::Formatter<W>) -> fmt::Result {
-        let ColumnLabel { label, name } = *self;
+        let Called { label, name } = *self;
         if name.is_empty() {
             return write!(f, "{label}");
         }
@@ -76,9 +76,9 @@ impl fmt::Display for ColumnLabel<'_> {
     }
 }
 
-impl fmt::Display for WholeLabel<'_> {
+impl fmt::Display for Whole<'_> {
     fn fmt<W: fmt::Write>(&self, f: &mut fmt::Formatter<W>) -> fmt::Result {
-        let WholeLabel { label, name } = *self;
+        let Whole { label, name } = *self;
         if name.is_empty() {
             return write!(f, "{label}");
         }

@@ -25,7 +25,7 @@ mod tableau;
 mod updates;
 
 pub use fixed::{MOST, ONE, parts, rounded, whole};
-pub use names::BasisNames;
+pub use names::Names;
 pub use simplex::Simplex;
-pub use solving::SolveStatus;
+pub use solving::End;
 pub use state::State;

@@ -7,7 +7,7 @@ use std::alloc::{AllocError, Global};
 
 /// The coefficient of a slack in a line, named by its number.
 #[derive(Clone, Copy)]
-pub(crate) struct Coefficient {
+pub(crate) struct Entry {
     pub(crate) line: u32,
     pub(crate) coefficient: i32,
 }
@@ -17,12 +17,12 @@ pub(crate) struct Coefficient {
 pub(crate) struct Column {
     pub(crate) cost: i64,
     pub(crate) span: i64,
-    pub(crate) entries: Vec<Coefficient>,
+    pub(crate) entries: Vec<Entry>,
 }
 
 /// A line: its coefficients, what its sum is at least and at most, and one over the root of the squares of its coefficients.
 #[derive(Drop)]
-pub(crate) struct Constraint {
+pub(crate) struct Line {
     pub(crate) terms: Vec<Term>,
     pub(crate) least: i64,
     pub(crate) most: i64,
@@ -51,15 +51,15 @@ fn squares_of(terms: &[Term]) -> u64 {
     sum
 }
 
-impl Constraint {
+impl Line {
     /// The line of these coefficients, with a sum in this range.
     pub(crate) fn of(
         alloc: Global,
         terms: &[Term],
         least: i64,
         most: i64,
-    ) -> Result<Constraint, AllocError> {
-        Ok(Constraint {
+    ) -> Result<Line, AllocError> {
+        Ok(Line {
             terms: Vec::from_slice(alloc, terms)?,
             least,
             most,

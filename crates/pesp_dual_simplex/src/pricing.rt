@@ -12,7 +12,7 @@ const SUM_OFF: i64 = 1 << 19;
 
 /// What leaves so far, and how much that counts.
 #[derive(Clone, Copy)]
-struct LeavingCandidate {
+struct Found {
     leaving: Leaving,
     score: i64,
 }
@@ -29,15 +29,10 @@ fn missing(value: i64, least: i64, most: i64) -> i64 {
 }
 
 /// The one that counts more.
-fn better(
-    found: Option<LeavingCandidate>,
-    member: Member,
-    missing: i64,
-    score: i64,
-) -> Option<LeavingCandidate> {
+fn better(found: Option<Found>, member: Member, missing: i64, score: i64) -> Option<Found> {
     match found {
         Some(other) if other.score >= score => Some(other),
-        _ => Some(LeavingCandidate {
+        _ => Some(Found {
             leaving: Leaving { member, missing },
             score,
         }),
@@ -53,7 +48,7 @@ impl Simplex {
     }
 
     /// The basic slack that is furthest outside its range.
-    fn worst_slack(&self) -> Option<LeavingCandidate> {
+    fn worst_slack(&self) -> Option<Found> {
         let mut found = None;
         for number in &self.state.basic {
             let missing = self.slack_missing(*number).unwrap_or(0);

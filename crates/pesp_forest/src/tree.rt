@@ -9,7 +9,7 @@ pub const NONE: u32 = u32::MAX;
 /// first event that hangs below it, and the events before and after it among those that hang where it hangs. `NONE` where
 /// there is none.
 #[derive(Clone, Copy, PartialEq, Eq)]
-pub struct TreeEvent {
+pub struct Place {
     pub up: u32,
     pub by: u32,
     pub depth: u32,
@@ -19,7 +19,7 @@ pub struct TreeEvent {
 }
 
 /// A root below which nothing hangs.
-const ROOT: TreeEvent = TreeEvent {
+const ROOT: Place = Place {
     up: NONE,
     by: NONE,
     depth: 0,
@@ -31,7 +31,7 @@ const ROOT: TreeEvent = TreeEvent {
 /// Trees over events.
 #[derive(Drop)]
 pub struct Tree {
-    places: Vec<TreeEvent>,
+    places: Vec<Place>,
 }
 
 impl Tree {
@@ -69,7 +69,7 @@ impl Tree {
     }
 
     /// The place of an event.
-    pub fn place(&self, event: u32) -> Option<TreeEvent> {
+    pub fn place(&self, event: u32) -> Option<Place> {
         self.places.get(event as usize).copied()
     }
 
@@ -79,7 +79,7 @@ impl Tree {
     }
 
     /// The place of an event, to be changed.
-    fn place_mut(&mut self, event: u32) -> Option<&mut TreeEvent> {
+    fn place_mut(&mut self, event: u32) -> Option<&mut Place> {
         self.places.get_mut(event as usize)
     }
 
@@ -100,7 +100,7 @@ impl Tree {
     }
 
     /// Takes an event from where it hangs; its place before that.
-    fn unhang(&mut self, event: u32) -> Option<TreeEvent> {
+    fn unhang(&mut self, event: u32) -> Option<Place> {
         let place = self.place(event)?;
         if place.before == NONE {
             self.place_mut(place.up)?.below = place.after;

@@ -2,22 +2,23 @@
 
 use crate::exchange::{Exchange, draw};
 use crate::goal::{Goal, open_in_all};
-use crate::heat::HeatSchedule;
+use crate::heat::Heat;
 use crate::settings::DRAWN_EACH;
-use crate::table::ForestTable;
-use pesp_forest::{Frame, Random};
+use crate::table::Table;
+use pesp_forest::Frame;
 use pesp_network::Network;
 use pesp_problem::Memory;
+use pesp_search_tools::Random;
 use std::alloc::{AllocError, Global};
 
 /// A search: where it stands, the rows outside its forest, how open its cycles are, what the forest is worth, and the best rows
 /// so far.
 #[derive(Drop)]
-struct ForestSearch {
-    table: ForestTable,
+struct Search {
+    table: Table,
     outside: Vec<u32>,
     goal: Goal,
-    heat: HeatSchedule,
+    heat: Heat,
     random: Random,
     open: i64,
     worth: i128,
@@ -35,15 +36,15 @@ fn numbered(alloc: Global, places: &[u32]) -> Result<Vec<u32>, AllocError> {
     Ok(numbers)
 }
 
-impl ForestSearch {
+impl Search {
     /// A search of so many exchanges from a table; no rows are kept yet.
     fn new(
         alloc: Global,
         frame: &Frame,
-        table: ForestTable,
+        table: Table,
         seed: u32,
         most: u32,
-    ) -> Result<ForestSearch, AllocError> {
+    ) -> Result<Search, AllocError> {
         let outside = match table.forest.rows(alloc, false) {
             Ok(outside) => outside,
             Err(refused) => {
@@ -54,8 +55,8 @@ impl ForestSearch {
         let goal = Goal::new(outside.len());
         let open = open_in_all(frame, &table.basis);
         let worth = goal.worth(frame, table.cost(), open);
-        Ok(ForestSearch {
-            heat: HeatSchedule::new(frame, goal, outside.len(), most),
+        Ok(Search {
+            heat: Heat::new(frame, goal, outside.len(), most),
             rows: Vec::new(alloc),
             table,
             outside,
@@ -173,10 +174,10 @@ fn found_from(
     seed: u32,
     exchanges: u32,
 ) -> Result<Option<Vec<u32>>, AllocError> {
-    let Some(table) = ForestTable::new(alloc, frame, numbers)? else {
+    let Some(table) = Table::new(alloc, frame, numbers)? else {
         return Ok(None);
     };
-    let mut search = ForestSearch::new(alloc, frame, table, seed, exchanges)?;
+    let mut search = Search::new(alloc, frame, table, seed, exchanges)?;
     let found = search.found(alloc, frame, exchanges);
     drop(search);
     Ok(Some(found?))

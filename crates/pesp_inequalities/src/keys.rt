@@ -1,12 +1,13 @@
 //! The keys by which forests take rows, so that walks along them are likely to be violated.
 
 use crate::efficacy::WHOLE;
-use pesp_forest::{Frame, Random};
+use pesp_forest::Frame;
 use pesp_network::NetRow;
+use pesp_search_tools::Random;
 
 /// What a key begins with: nothing, the slack, or its distance from the nearer end of its range.
 #[derive(Clone, Copy)]
-enum KeyStart {
+enum Start {
     Nothing,
     Slack,
     NearerEnd,
@@ -16,7 +17,7 @@ enum KeyStart {
 /// that is drawn for each row, `by_span` times the span and `drawn` units.
 #[derive(Clone, Copy)]
 pub(crate) struct KeyRule {
-    start: KeyStart,
+    start: Start,
     fixed: i64,
     by_span: i64,
     drawn: i64,
@@ -25,37 +26,37 @@ pub(crate) struct KeyRule {
 /// The rules of the forests that are drawn each time.
 pub(crate) const RULES: [KeyRule; 6] = [
     KeyRule {
-        start: KeyStart::NearerEnd,
+        start: Start::NearerEnd,
         fixed: 8,
         by_span: 0,
         drawn: 0,
     },
     KeyRule {
-        start: KeyStart::Slack,
+        start: Start::Slack,
         fixed: 0,
         by_span: 64,
         drawn: 0,
     },
     KeyRule {
-        start: KeyStart::NearerEnd,
+        start: Start::NearerEnd,
         fixed: 0,
         by_span: 64,
         drawn: 0,
     },
     KeyRule {
-        start: KeyStart::NearerEnd,
+        start: Start::NearerEnd,
         fixed: 0,
         by_span: 0,
         drawn: 3 * WHOLE,
     },
     KeyRule {
-        start: KeyStart::NearerEnd,
+        start: Start::NearerEnd,
         fixed: 0,
         by_span: 0,
         drawn: 15 * WHOLE,
     },
     KeyRule {
-        start: KeyStart::Nothing,
+        start: Start::Nothing,
         fixed: WHOLE / 4,
         by_span: WHOLE,
         drawn: 0,
@@ -64,7 +65,7 @@ pub(crate) const RULES: [KeyRule; 6] = [
 
 /// The rule of the forest of small spans.
 pub(crate) const BY_SPAN: KeyRule = KeyRule {
-    start: KeyStart::Nothing,
+    start: Start::Nothing,
     fixed: WHOLE,
     by_span: 0,
     drawn: 0,
@@ -79,9 +80,9 @@ impl KeyRule {
     /// What the key of a row begins with.
     fn start(&self, span: i64, slack: i64) -> i64 {
         match self.start {
-            KeyStart::Nothing => 0,
-            KeyStart::Slack => slack,
-            KeyStart::NearerEnd => slack.min(span.wrapping_mul(WHOLE).wrapping_sub(slack)),
+            Start::Nothing => 0,
+            Start::Slack => slack,
+            Start::NearerEnd => slack.min(span.wrapping_mul(WHOLE).wrapping_sub(slack)),
         }
     }
 

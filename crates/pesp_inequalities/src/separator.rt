@@ -1,14 +1,15 @@
 //! The search for violated inequalities.
 
-use crate::efficacy::EfficacyMeasure;
+use crate::efficacy::Judge;
 use crate::finds::Finds;
 use crate::inequality::Inequality;
 use crate::keys::{BY_SPAN, KeyRule, RULES};
-use crate::marking::{DistanceOrigin, Marking};
+use crate::marking::{Ends, Marking};
 use crate::seen::Seen;
 use crate::spanning::Spanning;
-use crate::ways::TreeWalk;
-use pesp_forest::{Frame, Random};
+use crate::ways::Way;
+use pesp_forest::Frame;
+use pesp_search_tools::Random;
 use std::alloc::{AllocError, Global};
 
 /// How many passes of a walk are flipped at most, one after another, from the nearer ends on.
@@ -22,11 +23,11 @@ const MOST_PASSES: usize = 4_000_000;
 #[derive(Drop)]
 pub struct Separator {
     alloc: Global,
-    judge: EfficacyMeasure,
+    judge: Judge,
     random: Random,
     keys: Vec<i64>,
     spanning: Spanning,
-    way: TreeWalk,
+    way: Way,
     marking: Marking,
     offers: Finds,
     finds: Finds,
@@ -37,11 +38,11 @@ impl Separator {
     pub fn new(alloc: Global, frame: &Frame, seed: u64) -> Result<Separator, AllocError> {
         Ok(Separator {
             alloc,
-            judge: EfficacyMeasure::new(frame.period()),
+            judge: Judge::new(frame.period()),
             random: Random::new(seed),
             keys: vec![in alloc; 0i64; frame.rows().len()]?,
             spanning: Spanning::new(alloc, frame)?,
-            way: TreeWalk::new(alloc),
+            way: Way::new(alloc),
             marking: Marking::new(alloc),
             offers: Finds::new(alloc),
             finds: Finds::new(alloc),
@@ -55,7 +56,7 @@ impl Separator {
     }
 
     /// Notes the inequality of the walk with its slacks measured from these ends, where it may be violated.
-    fn offer_from(&mut self, ends: DistanceOrigin) -> Result<(), AllocError> {
+    fn offer_from(&mut self, ends: Ends) -> Result<(), AllocError> {
         if !self.marking.is_near(self.judge, ends) {
             return Ok(());
         }
@@ -65,7 +66,7 @@ impl Separator {
 
     /// Notes the inequalities that come of flips, each of which makes the one before more violated.
     fn offer_flips(&mut self) -> Result<(), AllocError> {
-        self.offer_from(DistanceOrigin::Nearer)?;
+        self.offer_from(Ends::Nearer)?;
         for _ in 0..MOST_FLIPS {
             if self.marking.improve(self.judge).is_none() {
                 break;
@@ -88,8 +89,8 @@ impl Separator {
         }
         self.offers.clear();
         self.offer_flips()?;
-        self.offer_from(DistanceOrigin::Rising)?;
-        self.offer_from(DistanceOrigin::Falling)?;
+        self.offer_from(Ends::Rising)?;
+        self.offer_from(Ends::Falling)?;
         self.finds.put_best(&mut self.offers, each)
     }
 

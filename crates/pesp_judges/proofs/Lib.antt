@@ -6,7 +6,6 @@ pub mod Judged
 pub mod Faults
 pub mod Shutting
 pub mod Options
-pub mod Judging
+pub mod PlainLeaves
+pub mod MarkedLeaves
 pub mod MarkedClosing
-pub mod Placing
-pub mod Telling

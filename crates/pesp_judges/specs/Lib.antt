@@ -5,4 +5,3 @@ pub mod Lines
 pub mod LeafLines
 pub mod SaidLines
 pub mod Ways
-pub mod Showing

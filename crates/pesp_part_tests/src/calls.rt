@@ -1,6 +1,6 @@
 //! Calls over texts, instances and certificates.
 
-use crate::answers::{CallAnswer, right_if};
+use crate::answers::{Answer, right_if};
 use crate::texts::{CERTIFICATE, INSTANCE, PERIOD, REPORT, certificate_of, instance_of};
 use pesp_cert::{CertRefusal, Certificate, parse};
 use pesp_check::{CheckFault, Verdict, check, check_text};
@@ -14,72 +14,72 @@ use std::alloc::Global;
 use std::io;
 use std::io::Write;
 
-pub(crate) fn try_read_instance(alloc: Global) -> CallAnswer {
+pub(crate) fn try_read_instance(alloc: Global) -> Answer {
     match read_instance(alloc, INSTANCE, PERIOD) {
         Ok(instance) => right_if(instance.rows().len() == 2 && instance.events().len() == 2),
-        Err(ReadRefusal::Memory) => CallAnswer::Memory,
-        Err(_) => CallAnswer::Wrong,
+        Err(ReadRefusal::Memory) => Answer::Memory,
+        Err(_) => Answer::Wrong,
     }
 }
 
-pub(crate) fn try_parse(alloc: Global) -> CallAnswer {
+pub(crate) fn try_parse(alloc: Global) -> Answer {
     match parse(alloc, CERTIFICATE) {
         Ok(certificate) => {
             right_if(certificate.answer() == Claim::Optimal(5) && certificate.tree().len() == 3)
         }
-        Err(CertRefusal::Memory) => CallAnswer::Memory,
-        Err(_) => CallAnswer::Wrong,
+        Err(CertRefusal::Memory) => Answer::Memory,
+        Err(_) => Answer::Wrong,
     }
 }
 
-fn check_on(alloc: Global, instance: &Instance, certificate: &Certificate) -> CallAnswer {
+fn check_on(alloc: Global, instance: &Instance, certificate: &Certificate) -> Answer {
     match check(alloc, instance, certificate) {
         Ok(verdict) => right_if(verdict == Verdict::Accepted),
-        Err(_) => CallAnswer::Memory,
+        Err(_) => Answer::Memory,
     }
 }
 
-fn check_parsed(alloc: Global, instance: &Instance) -> CallAnswer {
+fn check_parsed(alloc: Global, instance: &Instance) -> Answer {
     match certificate_of(alloc) {
         Some(certificate) => {
             let answer = check_on(alloc, instance, &certificate);
             drop(certificate);
             answer
         }
-        None => CallAnswer::Memory,
+        None => Answer::Memory,
     }
 }
 
-pub(crate) fn try_check(alloc: Global) -> CallAnswer {
+pub(crate) fn try_check(alloc: Global) -> Answer {
     match instance_of(alloc) {
         Some(instance) => {
             let answer = check_parsed(alloc, &instance);
             drop(instance);
             answer
         }
-        None => CallAnswer::Memory,
+        None => Answer::Memory,
     }
 }
 
-fn check_text_on(alloc: Global, instance: &Instance) -> CallAnswer {
+fn check_text_on(alloc: Global, instance: &Instance) -> Answer {
     let mut reader = Counted::new(CERTIFICATE);
     match check_text(alloc, instance, &mut reader) {
         Ok((verdict, claim)) => {
             right_if(verdict == Verdict::Accepted && claim == Claim::Optimal(5))
         }
-        Err(CheckFault::Memory) => CallAnswer::Memory,
-        Err(_) => CallAnswer::Wrong,
+        Err(CheckFault::Memory) => Answer::Memory,
+        Err(_) => Answer::Wrong,
     }
 }
 
-pub(crate) fn try_check_text(alloc: Global) -> CallAnswer {
+pub(crate) fn try_check_text(alloc: Global) -> Answer {
     match instance_of(alloc) {
         Some(instance) => {
             let answer = check_text_on(alloc, &instance);
             drop(instance);
             answer
         }
-        None => CallAnswer::Memory,
+        None => Answer::Memory,
     }
 }
 
@@ -107,7 +107,7 @@ impl Write for Comparing<'_> {
     }
 }
 
-fn report_on(alloc: Global, instance: &Instance) -> CallAnswer {
+fn report_on(alloc: Global, instance: &Instance) -> Answer {
     let mut writer = Counted::new(Comparing {
         rest: REPORT,
         same: true,
@@ -117,37 +117,37 @@ fn report_on(alloc: Global, instance: &Instance) -> CallAnswer {
             let written = writer.into_inner();
             right_if(written.same && written.rest.is_empty())
         }
-        Err(ReportRefusal::Memory) => CallAnswer::Memory,
-        Err(_) => CallAnswer::Wrong,
+        Err(ReportRefusal::Memory) => Answer::Memory,
+        Err(_) => Answer::Wrong,
     }
 }
 
-pub(crate) fn try_report(alloc: Global) -> CallAnswer {
+pub(crate) fn try_report(alloc: Global) -> Answer {
     match instance_of(alloc) {
         Some(instance) => {
             let answer = report_on(alloc, &instance);
             drop(instance);
             answer
         }
-        None => CallAnswer::Memory,
+        None => Answer::Memory,
     }
 }
 
-fn solve_on(alloc: Global, instance: &Instance) -> CallAnswer {
+fn solve_on(alloc: Global, instance: &Instance) -> Answer {
     match solve(alloc, instance, 3) {
         Ok(solved) => right_if(solved.certificate.answer() == Claim::Optimal(5)),
-        Err(SolveRefusal::Memory) => CallAnswer::Memory,
-        Err(_) => CallAnswer::Wrong,
+        Err(SolveRefusal::Memory) => Answer::Memory,
+        Err(_) => Answer::Wrong,
     }
 }
 
-pub(crate) fn try_solve(alloc: Global) -> CallAnswer {
+pub(crate) fn try_solve(alloc: Global) -> Answer {
     match instance_of(alloc) {
         Some(instance) => {
             let answer = solve_on(alloc, &instance);
             drop(instance);
             answer
         }
-        None => CallAnswer::Memory,
+        None => Answer::Memory,
     }
 }

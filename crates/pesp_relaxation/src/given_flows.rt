@@ -2,7 +2,8 @@
 
 use crate::basis::Basis;
 use crate::row::Bend;
-use pesp_forest::{Frame, Groups, grow_all};
+use pesp_forest::{Frame, grow_all};
+use pesp_search_tools::Groups;
 use std::alloc::{AllocError, Global};
 
 impl Basis {

@@ -1,6 +1,6 @@
 //! The linear program of a node.
 
-use crate::branch::OffsetBound;
+use crate::branch::Branch;
 use crate::limit::{Limit, cost_shown};
 use crate::pool::Pool;
 use crate::setting::Setting;
@@ -29,21 +29,21 @@ const MISSED: i64 = 1 << 8;
 #[derive(Clone, Copy)]
 pub enum Origin {
     Pooled(u32),
-    Offset(OffsetBound),
+    Offset(Branch),
 }
 
 /// An inequality of a program: what it is, and for how many rounds in a row nothing came of it.
 #[derive(Clone, Copy)]
-pub struct ProgramMember {
+pub struct Member {
     pub origin: Origin,
     pub idle: u32,
 }
 
 /// A program, and what its inequalities are, in order.
 #[derive(Drop)]
-pub struct NodeProgram {
+pub struct Relaxation {
     pub program: Program,
-    pub members: Vec<ProgramMember>,
+    pub members: Vec<Member>,
 }
 
 /// A multiplier that isn't sought yet.
@@ -54,9 +54,9 @@ pub const NO_MULTIPLIER: Multiplier = Multiplier {
 
 /// A program where it was filled; else it goes.
 pub(crate) fn filled(
-    relaxation: NodeProgram,
+    relaxation: Relaxation,
     outcome: Result<(), AllocError>,
-) -> Result<NodeProgram, AllocError> {
+) -> Result<Relaxation, AllocError> {
     match outcome {
         Ok(()) => Ok(relaxation),
         Err(error) => {
@@ -66,10 +66,10 @@ pub(crate) fn filled(
     }
 }
 
-impl NodeProgram {
+impl Relaxation {
     /// The program without an inequality.
-    pub fn new(alloc: Global, setting: &Setting) -> Result<NodeProgram, AllocError> {
-        Ok(NodeProgram {
+    pub fn new(alloc: Global, setting: &Setting) -> Result<Relaxation, AllocError> {
+        Ok(Relaxation {
             program: Program::new(alloc, setting.frame.rows(), setting.scale)?,
             members: Vec::new(alloc),
         })
@@ -98,7 +98,7 @@ impl NodeProgram {
     ) -> Result<(), AllocError> {
         self.program
             .add(pool.terms(number), pool.least(number), multiplier)?;
-        self.members.push(ProgramMember {
+        self.members.push(Member {
             origin: Origin::Pooled(number),
             idle: 0,
         })?;
@@ -110,7 +110,7 @@ impl NodeProgram {
         &mut self,
         alloc: Global,
         setting: &Setting,
-        branch: OffsetBound,
+        branch: Branch,
         multiplier: Multiplier,
     ) -> Result<(), AllocError> {
         let Some(cycle) = setting.cycle(branch.cycle) else {
@@ -119,7 +119,7 @@ impl NodeProgram {
         let terms = cycle.terms(alloc, branch.side)?;
         let least = cycle.least(setting.period(), branch);
         self.program.add(&terms, least, multiplier)?;
-        self.members.push(ProgramMember {
+        self.members.push(Member {
             origin: Origin::Offset(branch),
             idle: 0,
         })?;

@@ -3,9 +3,10 @@
 use crate::copies::{copied_lemmas, copied_marked};
 use crate::scales::growth_of;
 use pesp_cert::{Fronted, ShownLemma};
+use pesp_nets::MarkedWalk;
 use pesp_network::Network;
-use pesp_problem::{MarkedWalk, Memory, Pair, Pairs};
-use pesp_sharpening::SharpLine;
+use pesp_problem::{Memory, Pair, Pairs};
+use pesp_sharpening::Line;
 use pesp_truth::TreeLine;
 use std::alloc::Global;
 
@@ -13,7 +14,7 @@ use std::alloc::Global;
 /// that kept lines name, how many these are, its lemmas, whether kept lines name one, and by what the multipliers grow of leaves
 /// that name a marked walk or a lemma.
 #[derive(Drop)]
-pub struct KeptLines<'a> {
+pub struct Kept<'a> {
     tree: &'a [TreeLine],
     marked: &'a [MarkedWalk],
     lemmas: &'a [ShownLemma],
@@ -107,18 +108,18 @@ fn ranks_of(alloc: Global, named: &[bool]) -> Result<Vec<Option<u32>>, Memory> {
     Ok(ranks)
 }
 
-impl<'a> KeptLines<'a> {
+impl<'a> Kept<'a> {
     /// The lines of a base of which these lines keep some.
     pub fn of(
         alloc: Global,
         network: &Network,
         base: &'a Fronted,
-        lines: &[SharpLine],
-    ) -> Result<KeptLines<'a>, Memory> {
+        lines: &[Line],
+    ) -> Result<Kept<'a>, Memory> {
         let marked = marked_of(base);
         let lemmas = lemmas_of(base);
         let cycles = u32::try_from(base.certificate.cycles().len()).unwrap_or(u32::MAX);
-        let mut kept = KeptLines {
+        let mut kept = Kept {
             tree: base.certificate.tree(),
             marked,
             lemmas,
@@ -140,9 +141,9 @@ impl<'a> KeptLines<'a> {
     }
 
     /// The lines of the base that a line keeps.
-    fn run(&self, line: &SharpLine) -> &'a [TreeLine] {
+    fn run(&self, line: &Line) -> &'a [TreeLine] {
         match line {
-            SharpLine::Kept { first, count, .. } => {
+            Line::Kept { first, count, .. } => {
                 let first = *first as usize;
                 let end = first.saturating_add(*count as usize);
                 self.tree.get(first..end).unwrap_or(&[])
@@ -152,7 +153,7 @@ impl<'a> KeptLines<'a> {
     }
 
     /// Marks the walks and lemmas that the lines name that a line keeps.
-    fn mark_run(&self, line: &SharpLine, named: &mut [bool]) {
+    fn mark_run(&self, line: &Line, named: &mut [bool]) {
         for kept in self.run(line) {
             mark(self.cycles, kept, named);
         }
@@ -238,7 +239,7 @@ impl<'a> KeptLines<'a> {
         &self,
         alloc: Global,
         tree: &mut Vec<TreeLine>,
-        line: &SharpLine,
+        line: &Line,
         behind: u32,
     ) -> Result<(), Memory> {
         for kept in self.run(line) {

@@ -1,13 +1,13 @@
 //! Steps by exchanges over the program that all leaves share.
 
-use crate::opens::{LeafStart, Open};
+use crate::opens::{Open, Start};
 use crate::proposals::times_near;
-use crate::sharpened::LeafMultipliers;
+use crate::sharpened::Leaf;
 use crate::sharpening::{Sharpening, Step};
 use crate::tree::Knot;
 use pesp_offset_cuts::{Candidate, open_cut};
-use pesp_sharp_nodes::{BoundSense, Limit, NodeProgram, UNIT};
-use pesp_warm_nodes::{NodeBasis, Shared, ShownBound, SolveStatus, note};
+use pesp_sharp_nodes::{Limit, Relaxation, Side, UNIT};
+use pesp_warm_nodes::{Basis, End, Shared, Shown, note};
 use std::alloc::AllocError;
 use std::mem::swap;
 
@@ -31,13 +31,13 @@ struct Above {
 }
 
 /// A leaf of what is shown.
-fn leaf_of(shown: ShownBound) -> (LeafMultipliers, u64) {
-    let ShownBound {
+fn leaf_of(shown: Shown) -> (Leaf, u64) {
+    let Shown {
         bound,
         pairs,
         walks,
     } = shown;
-    (LeafMultipliers { pairs, walks }, bound)
+    (Leaf { pairs, walks }, bound)
 }
 
 impl Sharpening {
@@ -49,7 +49,7 @@ impl Sharpening {
     /// Goes on from the root by exchanges, where they are for it; whether they are.
     pub(crate) fn share(
         &mut self,
-        relaxation: &NodeProgram,
+        relaxation: &Relaxation,
         limit: Limit,
     ) -> Result<bool, AllocError> {
         if !self.is_leaf() {
@@ -187,7 +187,7 @@ impl Sharpening {
         &mut self,
         place: u32,
         bound: u64,
-        basis: NodeBasis,
+        basis: Basis,
         limit: Limit,
     ) -> Result<(), AllocError> {
         if bound >= limit.cost {
@@ -197,7 +197,7 @@ impl Sharpening {
         self.put_open(Open {
             place,
             bound,
-            start: LeafStart::Exchanges(basis),
+            start: Start::Exchanges(basis),
         })
     }
 
@@ -205,7 +205,7 @@ impl Sharpening {
     pub(crate) fn work_warm(
         &mut self,
         open: &Open,
-        basis: &NodeBasis,
+        basis: &Basis,
         limit: Limit,
     ) -> Result<Step, AllocError> {
         let mut held = None;
@@ -230,7 +230,7 @@ impl Sharpening {
     }
 
     /// Goes to a leaf that isn't the last one's part.
-    fn enter_other(&mut self, shared: &mut Shared, basis: &NodeBasis) -> Result<(), AllocError> {
+    fn enter_other(&mut self, shared: &mut Shared, basis: &Basis) -> Result<(), AllocError> {
         if basis.is_given() {
             shared.enter_here(&self.sharpener.setting, basis)
         } else {
@@ -243,9 +243,9 @@ impl Sharpening {
         &mut self,
         shared: &mut Shared,
         place: u32,
-        basis: &NodeBasis,
+        basis: &Basis,
         limit: Limit,
-    ) -> Result<SolveStatus, AllocError> {
+    ) -> Result<End, AllocError> {
         if self.carried == Some(place) {
             self.carried = None;
             shared.enter_carried(&self.sharpener.setting, basis)?;
@@ -254,7 +254,7 @@ impl Sharpening {
             self.enter_other(shared, basis)?;
         }
         let end = shared.solve_out(&self.sharpener.setting, limit)?;
-        if end == SolveStatus::Best && self.seeks_at(basis.depth) {
+        if end == End::Best && self.seeks_at(basis.depth) {
             return shared.sharpen(&mut self.sharpener, limit);
         }
         Ok(end)
@@ -276,11 +276,11 @@ impl Sharpening {
         &mut self,
         shared: &mut Shared,
         open: &Open,
-        basis: &NodeBasis,
+        basis: &Basis,
         limit: Limit,
     ) -> Result<Step, AllocError> {
         let end = self.enter(shared, open.place, basis, limit)?;
-        if end == SolveStatus::Ray && self.shut_warm(shared, open.place)? {
+        if end == End::Ray && self.shut_warm(shared, open.place)? {
             return Ok(Step::Readied);
         }
         let bound = self.renew_warm(shared, open.place, open.bound, limit)?;
@@ -297,7 +297,7 @@ impl Sharpening {
     fn choose_warm(
         &mut self,
         shared: &mut Shared,
-        basis: &NodeBasis,
+        basis: &Basis,
         limit: Limit,
     ) -> Result<Option<Candidate>, AllocError> {
         let setting = &self.sharpener.setting;
@@ -312,7 +312,7 @@ impl Sharpening {
         shared: &mut Shared,
         place: u32,
         bound: u64,
-        basis: &NodeBasis,
+        basis: &Basis,
         limit: Limit,
     ) -> Result<Step, AllocError> {
         let found = self.choose_warm(shared, basis, limit)?;
@@ -337,7 +337,7 @@ impl Sharpening {
         shared: &mut Shared,
         place: u32,
         bound: u64,
-        basis: &NodeBasis,
+        basis: &Basis,
         limit: Limit,
     ) -> Result<Step, AllocError> {
         shared.solve_anew(&self.sharpener.setting, limit)?;
@@ -355,7 +355,7 @@ impl Sharpening {
         shared: &mut Shared,
         place: u32,
         bound: u64,
-        basis: &NodeBasis,
+        basis: &Basis,
         found: Candidate,
         limit: Limit,
     ) -> Result<Step, AllocError> {
@@ -365,8 +365,8 @@ impl Sharpening {
             bound,
             depth: basis.depth,
         };
-        let low = self.part_warm(shared, above, found, BoundSense::AtMost, limit)?;
-        let high = self.part_warm(shared, above, found, BoundSense::AtLeast, limit)?;
+        let low = self.part_warm(shared, above, found, Side::AtMost, limit)?;
+        let high = self.part_warm(shared, above, found, Side::AtLeast, limit)?;
         let cut = found.cut;
         let pool = &mut self.sharpener.pool;
         let knot = Knot::Split { cut, low, high };
@@ -381,7 +381,7 @@ impl Sharpening {
         shared: &mut Shared,
         above: Above,
         found: Candidate,
-        side: BoundSense,
+        side: Side,
         limit: Limit,
     ) -> Result<u32, AllocError> {
         let before = shared.value();
@@ -410,10 +410,10 @@ impl Sharpening {
         &mut self,
         shared: &mut Shared,
         above: Above,
-        end: SolveStatus,
+        end: End,
         limit: Limit,
     ) -> Result<u32, AllocError> {
-        if end == SolveStatus::Ray
+        if end == End::Ray
             && let Some(shown) = shared.shown_by_ray(&self.sharpener.setting)?
         {
             let (leaf, _) = leaf_of(shown);
@@ -434,7 +434,7 @@ impl Sharpening {
             let open = Open {
                 place,
                 bound,
-                start: LeafStart::Exchanges(basis),
+                start: Start::Exchanges(basis),
             };
             self.put_part(shared, open, above, limit)?;
         }

@@ -21,7 +21,7 @@ const NO_GAINS: Gains = Gains {
 
 /// The gains of one side of all cuts, for each cycle, and for all, there divided by the weight and 1.
 #[derive(Drop)]
-pub(crate) struct SideGains {
+pub(crate) struct Side {
     by_cycle: Vec<Gains>,
     all: Gains,
 }
@@ -41,10 +41,10 @@ impl Gains {
     }
 }
 
-impl SideGains {
+impl Side {
     /// No gains for so many cycles.
-    pub(crate) fn new(alloc: Global, cycles: usize) -> Result<SideGains, AllocError> {
-        Ok(SideGains {
+    pub(crate) fn new(alloc: Global, cycles: usize) -> Result<Side, AllocError> {
+        Ok(Side {
             by_cycle: vec![in alloc; NO_GAINS; cycles]?,
             all: NO_GAINS,
         })

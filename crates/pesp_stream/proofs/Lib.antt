@@ -1,4 +1,2 @@
 pub mod Fronts
 pub mod Printing
-pub mod Digits
-pub mod SplitPieces

@@ -3,5 +3,3 @@ pub mod Counts
 pub mod Printing
 pub mod Reading
 pub mod Writing
-pub mod Number
-pub mod Words

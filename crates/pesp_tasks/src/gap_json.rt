@@ -1,9 +1,10 @@
 //! How good a certificate's answer is, as JSON.
 
 ghost use Rattle.std.specs.Prelude.{◌≡◌};
+ghost use Rattle.pesp_truth.specs.Certificates.{least_of, cost_of};
 ghost use Rattle.pesp_tasks.specs.Gaps.{points_of};
 
-use crate::gap_text::{Number, ToldGap};
+use crate::gap_text::{Number, Told};
 use crate::savings::gap;
 use pesp_cert::Fronted;
 use pesp_problem::Instance;
@@ -19,12 +20,12 @@ pub struct GapJson;
 
 /// What kind of an answer it is, in a word.
 #[derive(Clone, Copy)]
-struct AnswerKind(Answer);
+struct Kind(Answer);
 
-impl Printed for AnswerKind {
-    ghost use Rattle.pesp_tasks.specs.Gaps.{answer_kind};
+impl Printed for Kind {
+    ghost use Rattle.pesp_tasks.specs.Gaps.{kind_of};
 
-    ghost text = { λ t. answer_kind t.0 };
+    ghost text = { λ t. kind_of t.0 };
 
     fn print<O: Output>(&self, out: &mut O) {
         match self.0 {
@@ -40,15 +41,37 @@ impl Printed for AnswerKind {
 struct Amount(Option<u64>);
 
 impl Printed for Amount {
-    ghost use Rattle.pesp_tasks.specs.Gaps.{amount_text};
+    ghost use Rattle.pesp_tasks.specs.Gaps.{amount};
 
-    ghost text = { λ t. amount_text t.0 };
+    ghost text = { λ t. amount t.0 };
 
     fn print<O: Output>(&self, out: &mut O) {
         match self.0 {
             None => out.put(b"null"),
             Some(number) => Number(number).print(out),
         }
+    }
+}
+
+/// The bound of an answer; none where there is no timetable.
+fn least_of(answer: Answer) -> Option<u64>
+    ensures { result ≡ least_of answer }
+{
+    match answer {
+        Answer::Optimal(cost) => Some(cost),
+        Answer::Infeasible => None,
+        Answer::Bounded { least, .. } => Some(least),
+    }
+}
+
+/// The cost of an answer, where it has one.
+fn cost_of(answer: Answer) -> Option<u64>
+    ensures { result ≡ cost_of answer }
+{
+    match answer {
+        Answer::Optimal(cost) => Some(cost),
+        Answer::Infeasible => None,
+        Answer::Bounded { cost, .. } => cost,
     }
 }
 
@@ -69,7 +92,7 @@ fn points_of(answer: Answer) -> Option<u64>
 
 /// A certificate as an object on a line.
 #[derive(Clone, Copy)]
-struct GapObject(ToldGap);
+struct GapObject(Told);
 
 impl Printed for GapObject {
     ghost use Rattle.pesp_tasks.specs.Gaps.{gap_object};
@@ -80,10 +103,10 @@ impl Printed for GapObject {
         let told = self.0;
         let answer = told.answer;
         let (period, version) = (u64::from(told.period), u64::from(told.version));
-        let (bound, cost) = (Amount(answer.least()), Amount(answer.cost()));
+        let (bound, cost) = (Amount(least_of(answer)), Amount(cost_of(answer)));
         let points = Amount(points_of(answer));
         (
-            ("{\"answer\":\"", AnswerKind(answer), "\",\"bound\":", bound),
+            ("{\"answer\":\"", Kind(answer), "\",\"bound\":", bound),
             (
                 ",\"branches\":",
                 Number(told.branches as u64),
@@ -122,7 +145,7 @@ impl OnBase for GapJson {
         base: Fronted,
         writer: &mut W,
     ) -> Result<(), Fault> {
-        let told = ToldGap::of(&base);
+        let told = Told::of(&base);
         drop(base);
         print_to(writer, &GapObject(told))?;
         Ok(())

@@ -8,7 +8,7 @@ use std::io::{Error, ErrorKind, Read, Seek, SeekFrom, Write};
 
 /// Gives its bytes from a place on, as the device does; all else is refused.
 #[derive(Drop)]
-pub(crate) struct PageDevice {
+pub(crate) struct Page {
     text: Vec<u8>,
     at: usize,
     device: Device,
@@ -19,10 +19,10 @@ pub(crate) fn refused() -> Error {
     Error::from(ErrorKind::Unsupported)
 }
 
-impl PageDevice {
+impl Page {
     /// The file with this text, of which nothing is read.
-    pub(crate) fn new(text: Vec<u8>, device: Device) -> PageDevice {
-        PageDevice {
+    pub(crate) fn new(text: Vec<u8>, device: Device) -> Page {
+        Page {
             text,
             at: 0,
             device,
@@ -30,7 +30,7 @@ impl PageDevice {
     }
 }
 
-impl Read for PageDevice {
+impl Read for Page {
     fn read(&mut self, buf: &mut [u8]) -> io::Result<usize> {
         if buf.is_empty() {
             return Ok(0);
@@ -44,7 +44,7 @@ impl Read for PageDevice {
     }
 }
 
-impl Write for PageDevice {
+impl Write for Page {
     fn write(&mut self, _buf: &[u8]) -> io::Result<usize> {
         Err(refused())
     }
@@ -54,19 +54,19 @@ impl Write for PageDevice {
     }
 }
 
-impl Seek for PageDevice {
+impl Seek for Page {
     fn seek(&mut self, _to: SeekFrom) -> io::Result<u64> {
         Err(refused())
     }
 }
 
-impl Lockable for PageDevice {
+impl Lockable for Page {
     fn take(&self) -> io::Result<bool> {
         Err(refused())
     }
 }
 
-impl OpenFile for PageDevice {
+impl OpenFile for Page {
     fn metadata(&self) -> io::Result<Metadata> {
         Err(refused())
     }

@@ -1,15 +1,13 @@
 //! Balls: a connected part of the events is freed, and the rest moves as one cluster.
 
-use crate::search::TimetableSearch;
+use crate::search::Search;
 use crate::work::FEW;
 use pesp_annealing::Annealer;
 use pesp_network::Network;
 use pesp_problem::Memory;
-use pesp_timetables::{
-    ClusterContraction, EventClusters, Found, Keys, Relaxation, ball_around, cost_of,
-};
+use pesp_timetables::{Clusters, Contraction, Found, Keys, Relaxation, ball_around, cost_of};
 
-impl TimetableSearch {
+impl Search {
     /// The dearest of three rows that are drawn.
     fn dear_row(&mut self, found: &Found) -> Option<u32> {
         let rows = u64::try_from(found.slacks.len()).ok()?;
@@ -29,7 +27,7 @@ impl TimetableSearch {
     }
 
     /// A ball around a dear row, of 20 to 60 of 100 rows.
-    fn ball(&mut self, found: &Found) -> Result<Option<EventClusters>, Memory> {
+    fn ball(&mut self, found: &Found) -> Result<Option<Clusters>, Memory> {
         let Some(place) = self.dear_row(found) else {
             return Ok(None);
         };
@@ -93,7 +91,7 @@ impl TimetableSearch {
         let Some(clusters) = self.ball(found)? else {
             return Ok(());
         };
-        let made = ClusterContraction::new(self.alloc, network, &found.slacks, &clusters)?;
+        let made = Contraction::new(self.alloc, network, &found.slacks, &clusters)?;
         let Some(contraction) = made else {
             return Ok(());
         };

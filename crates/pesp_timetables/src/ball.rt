@@ -1,8 +1,9 @@
 //! Balls: a connected part of the events is freed, and the rest moves as one cluster.
 
-use crate::clusters::EventClusters;
-use pesp_forest::guarded::set_number;
-use pesp_forest::{Frame, Random};
+use crate::clusters::Clusters;
+use pesp_forest::Frame;
+use pesp_search_tools::Random;
+use pesp_search_tools::guarded::set_number;
 use std::alloc::{AllocError, Global};
 
 /// Among how many events that wait the next one is drawn.
@@ -11,7 +12,7 @@ const DRAWN_FROM: usize = 6;
 /// A ball as it grows: the events that wait, from the next one on, which events and rows were met, and how many rows.
 #[derive(Drop)]
 struct Ball {
-    clusters: EventClusters,
+    clusters: Clusters,
     waiting: Vec<u32>,
     next: usize,
     is_met: Vec<bool>,
@@ -24,7 +25,7 @@ impl Ball {
     fn new(alloc: Global, frame: &Frame) -> Result<Ball, AllocError> {
         let events = frame.events();
         Ok(Ball {
-            clusters: EventClusters {
+            clusters: Clusters {
                 of: vec![in alloc; 0u32; events]?,
                 count: 1,
             },
@@ -116,7 +117,7 @@ pub fn ball_around(
     ends: (u32, u32),
     rows: u64,
     random: &mut Random,
-) -> Result<EventClusters, AllocError> {
+) -> Result<Clusters, AllocError> {
     let mut ball = Ball::new(alloc, frame)?;
     ball.fill(frame, ends, rows, random)?;
     Ok(ball.clusters)

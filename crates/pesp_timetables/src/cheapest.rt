@@ -7,7 +7,7 @@ use std::alloc::Global;
 
 /// The times of a timetable, its slacks, and what it costs.
 #[derive(Drop)]
-struct BestSlacks {
+struct Best {
     times: Vec<u32>,
     found: Found,
 }
@@ -15,7 +15,7 @@ struct BestSlacks {
 /// The cheapest timetable that was met, where there is one.
 #[derive(Drop)]
 pub struct Cheapest {
-    best: Option<BestSlacks>,
+    best: Option<Best>,
 }
 
 impl Cheapest {
@@ -58,7 +58,7 @@ impl Cheapest {
         };
         if network.is_timetable(&times) && network.cost_of(&times) == found.cost {
             let found = found.copy(alloc)?;
-            self.best = Some(BestSlacks { times, found });
+            self.best = Some(Best { times, found });
         }
         Ok(())
     }

@@ -1,4 +1,4 @@
-pub mod Named
+pub mod Multipliers
 pub mod Rooms
 pub mod FrontLimits
 pub mod Trees
@@ -18,8 +18,3 @@ pub mod AgreeingLeaves
 pub mod Widening
 pub mod Using
 pub mod Choosing
-pub mod Sums
-pub mod LemmaLeaves
-pub mod Shown
-pub mod WorkedLemmas
-pub mod Small

@@ -11,8 +11,8 @@ mod shared;
 mod solving;
 mod telling;
 
-pub use basis::NodeBasis;
+pub use basis::Basis;
 pub use choosing::note;
-pub use pesp_dual_simplex::SolveStatus;
+pub use pesp_dual_simplex::End;
 pub use shared::Shared;
-pub use telling::ShownBound;
+pub use telling::Shown;

@@ -1,0 +1,10 @@
+pub mod Sums
+pub mod Leaves
+pub mod Trees
+pub mod Lines
+pub mod Shown
+pub mod Plain
+pub mod Certificates
+pub mod Fronts
+pub mod Worked
+pub mod Small

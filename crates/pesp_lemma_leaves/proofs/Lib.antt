@@ -1,0 +1,4 @@
+pub mod Adding
+pub mod Kept
+pub mod Worth
+pub mod Reaching

@@ -1,0 +1,14 @@
+pub mod Counts
+pub mod Durations
+pub mod Walking
+pub mod LeafValues
+pub mod Rests
+pub mod Gains
+pub mod Straight
+pub mod Values
+pub mod Ends
+pub mod Worked
+pub mod Along
+pub mod Passes
+pub mod Small
+pub mod RowValues

@@ -1,0 +1,4 @@
+pub mod Entries
+pub mod Queues
+pub mod Heaps
+pub mod Held

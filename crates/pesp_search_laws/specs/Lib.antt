@@ -1,0 +1,5 @@
+pub mod Rooms
+pub mod Settled
+pub mod LeafSums
+pub mod Turns
+pub mod Lifted

@@ -1,0 +1,3 @@
+mod Lesser
+mod Retelling
+mod Branching

@@ -1,0 +1,254 @@
+-- A certificate with the answer that its tree shows.
+use Rattle.std.proofs.Common.{◌≡◌, ℕ, ◌<◌, ◌≤◌, arith, ap, sym, ◌∙◌, refl, subst, List, [], ◌∷◌, Option, Some, None, Bool, true, false}
+use Rattle.std.specs.Prelude.{ℤ, pos, negsuc, min, ◌≤ℤ◌, ◌&&◌, nat_lt, if◌then◌else◌, option_map}
+use Rattle.std.proofs.lemmas.Int.{ints}
+use Rattle.std.proofs.lemmas.Bool.Decides.{nat_tests}
+use Rattle.pesp_problem.specs.declared.row.SignedRow.{SignedRow}
+use Rattle.pesp_problem.specs.Timetables.{Pesp}
+use Rattle.pesp_problem.specs.declared.pair.Pair.{Pair}
+use Rattle.pesp_problem.specs.Arcs.{Net, arc_at, net_of}
+use Rattle.pesp_problem.specs.Nodes.{Node, root, low_part, high_part}
+use Rattle.pesp_truth.specs.declared.answer.Answer.{Answer}
+use Rattle.pesp_truth.specs.declared.answer.Answer.TheVariants.{Optimal, Infeasible, Bounded}
+use Rattle.pesp_truth.specs.Marks.{Marks}
+use Rattle.pesp_truth.specs.Trees.{Tree, Line, EndLine, CutLine, Bound, Shut, preorder}
+use Rattle.pesp_truth.specs.Certificates.{Content, lines_of, least_of, cost_of, ShowsTimetable, ShowsAnswer, shown_labels, shown_times}
+use Rattle.pesp_lemma.specs.Lemmas.{Lemma}
+use Rattle.pesp_lemma.specs.Trees.{Reaches, bound_by, cost_goal, IsSoundFrom, AreSoundFrom}
+use Rattle.pesp_lemma.specs.Shown.{lemmas_of}
+use Rattle.pesp_lemma.specs.Fronts.{IsValidBehind}
+use Rattle.pesp_lemma.specs.Certificates.{IsValidFrom}
+use Rattle.pesp_lemma.proofs.Lines.{sound_as_tree, sound_as_lines}
+use Rattle.pesp_cert.specs.Limits.{is_cost, has_costs, KeepsLimits}
+use Rattle.pesp_cert.specs.Fronted.{Fronted}
+use Rattle.pesp_check.specs.Costs.{told, shown_in, shown_of, marks_of, facts_said}
+use Rattle.pesp_check.proofs.Valid.{FrontLaw, lemmas_in, facts_are_of, valid_from, valid_behind}
+use Rattle.pesp_machine.specs.States.{IsAtMost}
+use Rattle.pesp_told.specs.Told.{least_shown, answer_of, IsRetold}
+use Rattle.pesp_told.proofs.Lesser.{IsReached, AreCosts, least_is_reached, least_within_cost, reached_by_least, least_cost}
+
+-- ---- one leaf
+
+told_reached : (v : ℤ) (m l : ℕ) → pos m ≤ℤ v → l ≤ told v → pos l ≤ℤ v
+told_reached (pos n) m l a r = let few : l ≤ n = omega (arith, r) in omega (arith, ints, few)
+told_reached (negsuc n) m l a r = absurd (omega (arith, ints, a))
+
+value_reached : (value : Option ℤ) (least l : Option ℕ) → Reaches value (option_map pos least) → IsAtMost l (option_map told value)
+    → Reaches value (option_map pos l)
+value_reached value None l a r = absurd a
+value_reached None (Some m) l a r = absurd a
+value_reached (Some v) (Some m) None a r = absurd r
+value_reached (Some v) (Some m) (Some l) a r = told_reached v m l a r
+
+told_above : (v : ℤ) (m : ℕ) → pos m ≤ℤ v → nat_lt m 1000000000000000000 ≡ true → m ≤ told v
+told_above (pos n) m a c =
+    let small : m < 1000000000000000000 = grind (arith, nat_tests, c) in
+    let few : m ≤ n = omega (arith, ints, a) in
+    omega (arith, small, few)
+told_above (negsuc n) m a c = absurd (omega (arith, ints, a))
+
+value_above : (value : Option ℤ) (least : Option ℕ) → Reaches value (option_map pos least) → is_cost least ≡ true → IsAtMost least (option_map told value)
+value_above value None a c = absurd a
+value_above None (Some m) a c = absurd a
+value_above (Some v) (Some m) a c = told_above v m a c
+
+value_cost : (value : Option ℤ) → is_cost (option_map told value) ≡ true
+value_cost None = refl
+value_cost (Some (pos n)) = let few : min n 999999999999999999 < 1000000000000000000 = omega arith in grind (arith, nat_tests, few)
+value_cost (Some (negsuc n)) = refl
+
+-- ---- lines
+
+module _ (n : Net) (table : List (List SignedRow)) (marks : Marks) (facts : List Lemma) where
+  -- the value of a leaf under the weights of the rows
+  abbrev value_at : List Pair → Node → Option ℤ
+  value_at pairs node = bound_by marks facts n table node pairs (λ i. pos (arc_at n.arcs i).weight)
+
+  abbrev AreSoundFor : Option ℕ → List Line → List Node → Type 0
+  AreSoundFor least lines nodes = AreSoundFrom marks facts n table (cost_goal n least) lines nodes
+
+  sound_for : (least l : Option ℕ) (lines : List Line) (nodes : List Node) → AreSoundFor least lines nodes
+      → IsReached l (shown_in n table marks facts lines nodes) → AreSoundFor l lines nodes
+  sound_for least l [] [] s r = tt
+  sound_for least l [] (node ∷ nodes) s r = absurd s
+  sound_for least l (line ∷ lines) [] s r = absurd s
+  sound_for least l (EndLine (Bound pairs) ∷ lines) (node ∷ nodes) s r =
+      ((s.0.0, value_reached (value_at pairs node) least l s.0.1 r.0), sound_for least l lines nodes s.1 r.1)
+  sound_for least l (EndLine (Shut reason) ∷ lines) (node ∷ nodes) s r = (s.0, sound_for least l lines nodes s.1 r.1)
+  sound_for least l (CutLine cut ∷ lines) (node ∷ nodes) s r = (
+    s.0,
+    sound_for least l lines (low_part node cut ∷ high_part node cut ∷ nodes) s.1 r.1,
+  )
+
+  reached_before : (least : Option ℕ) → is_cost least ≡ true → (lines : List Line) (nodes : List Node) → AreSoundFor least lines nodes
+      → IsReached least (shown_in n table marks facts lines nodes)
+  reached_before least c [] nodes s = tt
+  reached_before least c (line ∷ lines) [] s = tt
+  reached_before least c (EndLine (Bound pairs) ∷ lines) (node ∷ nodes) s =
+      (value_above (value_at pairs node) least s.0.1 c, reached_before least c lines nodes s.1)
+  reached_before least c (EndLine (Shut reason) ∷ lines) (node ∷ nodes) s = (tt, reached_before least c lines nodes s.1)
+  reached_before least c (CutLine cut ∷ lines) (node ∷ nodes) s = (
+    tt,
+    reached_before least c lines (low_part node cut ∷ high_part node cut ∷ nodes) s.1,
+  )
+
+  shown_costs : (lines : List Line) (nodes : List Node) → AreCosts (shown_in n table marks facts lines nodes)
+  shown_costs [] nodes = tt
+  shown_costs (line ∷ lines) [] = tt
+  shown_costs (EndLine (Bound pairs) ∷ lines) (node ∷ nodes) = (value_cost (value_at pairs node), shown_costs lines nodes)
+  shown_costs (EndLine (Shut reason) ∷ lines) (node ∷ nodes) = (refl, shown_costs lines nodes)
+  shown_costs (CutLine cut ∷ lines) (node ∷ nodes) = (refl, shown_costs lines (low_part node cut ∷ high_part node cut ∷ nodes))
+
+-- ---- answers
+
+answer_costs : (l cost : Option ℕ) → is_cost l ≡ true → is_cost cost ≡ true → has_costs (answer_of l cost) ≡ true
+answer_costs None cost h k = refl
+answer_costs (Some l) None h k = ap (λ (b : Bool). b && true) h
+answer_costs (Some l) (Some c) h k = go (nat_lt l c)
+  where
+    go : (b : Bool) → has_costs (if b then Bounded l (Some c) else Optimal c) ≡ true
+    go true = ap (λ (b : Bool). b && nat_lt c 1000000000000000000) h ∙ k
+    go false = k
+
+cost_is_cost : (answer : Answer) → has_costs answer ≡ true → is_cost (cost_of answer) ≡ true
+cost_is_cost (Optimal c) h = h
+cost_is_cost Infeasible h = refl
+cost_is_cost (Bounded l cost) h = second (nat_lt l 1000000000000000000) (is_cost cost) h
+  where
+    second : (a b : Bool) → (a && b) ≡ true → b ≡ true
+    second true b e = e
+    second false b e = cc
+
+least_is_cost : (answer : Answer) → has_costs answer ≡ true → is_cost (least_of answer) ≡ true
+least_is_cost (Optimal c) h = h
+least_is_cost Infeasible h = refl
+least_is_cost (Bounded l cost) h = first (nat_lt l 1000000000000000000) (is_cost cost) h
+  where
+    first : (a b : Bool) → (a && b) ≡ true → a ≡ true
+    first true b e = refl
+    first false b e = cc
+
+told_least : (l cost : Option ℕ) → IsAtMost l cost → (least_of (answer_of l cost) ≡ l) × (cost_of (answer_of l cost) ≡ cost)
+told_least None None h = (refl, refl)
+told_least None (Some c) h = absurd h
+told_least (Some l) None h = (refl, refl)
+told_least (Some l) (Some c) h = go (nat_lt l c) (λ e. let above : c ≤ l = grind (arith, nat_tests, e) in omega (arith, above, h))
+  where
+    go : (b : Bool) → (b ≡ false → l ≡ c) → (least_of (if b then Bounded l (Some c) else Optimal c) ≡ Some l)
+        × (cost_of (if b then Bounded l (Some c) else Optimal c) ≡ Some c)
+    go true same = (refl, refl)
+    go false same = (sym (ap (λ (n : ℕ). Some n) (same refl)), refl)
+
+module _ (p : Pesp) where
+  timed : (l c : ℕ) (labels : List ℤ) (times : List ℕ) → ShowsTimetable p labels times c
+      → ShowsAnswer p (answer_of (Some l) (Some c)) labels times
+  timed l c labels times s = go (nat_lt l c) (λ e. grind (arith, nat_tests, e))
+    where
+      go : (b : Bool) → (b ≡ true → l < c) → ShowsAnswer p (if b then Bounded l (Some c) else Optimal c) labels times
+      go true less = (less refl, s)
+      go false less = s
+
+  shows_still : (old : Answer) (l : Option ℕ) (labels : List ℤ) (times : List ℕ) → IsAtMost l (cost_of old)
+      → ShowsAnswer p old labels times → ShowsAnswer p (answer_of l (cost_of old)) labels times
+  shows_still (Optimal c) None labels times h s = absurd h
+  shows_still (Optimal c) (Some l) labels times h s = timed l c labels times s
+  shows_still Infeasible None labels times h s = s
+  shows_still Infeasible (Some l) labels times h s = s
+  shows_still (Bounded m None) None labels times h s = s
+  shows_still (Bounded m None) (Some l) labels times h s = s
+  shows_still (Bounded m (Some c)) None labels times h s = absurd h
+  shows_still (Bounded m (Some c)) (Some l) labels times h s = timed l c labels times s.1
+
+  -- a bound that is told isn't above the cost
+  within : (old : Answer) (labels : List ℤ) (times : List ℕ) → ShowsAnswer p old labels times → IsAtMost (least_of old) (cost_of old)
+  within (Optimal c) labels times s = omega arith
+  within Infeasible labels times s = tt
+  within (Bounded m None) labels times s = tt
+  within (Bounded m (Some c)) labels times s = let less = s.0 in omega (arith, less)
+
+-- ---- certificates
+
+abbrev with_new : Content → Answer → Content
+with_new content answer = record content { answer = answer }
+
+module _ (p : Pesp) (c : Fronted) (limits : KeepsLimits c.content) (law : FrontLaw) (valid : IsValidBehind c.front p c.content) where
+  marked : IsValidFrom (lemmas_in c.front) (marks_of c.front) p c.content
+  marked = valid_from c.front p c.content law valid
+
+  lines : AreSoundFor (net_of p) c.content.cycles (marks_of c.front) (facts_said c.front) (least_of c.content.answer) (lines_of c.content)
+      (root (net_of p) c.content.cycles ∷ [])
+  lines =
+      let P : List Lemma → Type 0 = λ facts. AreSoundFor (net_of p) c.content.cycles (marks_of c.front) facts (least_of c.content.answer)
+      (lines_of c.content) (root (net_of p) c.content.cycles ∷ []) in
+      subst P (facts_are_of c.front) (sound_as_lines (marks_of c.front) (lemmas_of (lemmas_in c.front)) (net_of p) c.content.cycles
+      (cost_goal (net_of p) (least_of c.content.answer)) (lines_of c.content) (root (net_of p) c.content.cycles) marked.tree)
+
+  known : is_cost (least_of c.content.answer) ≡ true
+  known = least_is_cost c.content.answer limits.answer
+
+  pub new_costs : has_costs (answer_of (least_shown (cost_of c.content.answer) (shown_of p c)) (cost_of c.content.answer)) ≡ true
+  new_costs =
+      let own = cost_is_cost c.content.answer limits.answer in
+      answer_costs (least_shown (cost_of c.content.answer) (shown_of p c)) (cost_of c.content.answer)
+      (least_cost (cost_of c.content.answer) (shown_of p c) own
+      (shown_costs (net_of p) c.content.cycles (marks_of c.front) (facts_said c.front) (lines_of c.content) (root (net_of p) c.content.cycles ∷ [])))
+      own
+
+  pub retold_is : (content : Content) → content ≡ record c.content {
+    answer = answer_of (least_shown (cost_of c.content.answer) (shown_of p c)) (cost_of c.content.answer);
+  } → IsRetold p c (record { front = c.front; content = content })
+  retold_is content is =
+      let cost = cost_of c.content.answer in
+      let shown = shown_of p c in
+      let least = least_shown cost shown in
+      let new : Content = record c.content { answer = answer_of least cost } in
+      let below = least_within_cost cost shown in
+      let tells = told_least least cost below in
+      let sound = sound_for (net_of p) c.content.cycles (marks_of c.front) (facts_said c.front) (least_of c.content.answer) least
+      (lines_of c.content) (root (net_of p) c.content.cycles ∷ []) lines (least_is_reached cost shown) in
+      let F : List Lemma → Type 0 = λ facts. AreSoundFor (net_of p) c.content.cycles (marks_of c.front) facts least (lines_of c.content)
+      (root (net_of p) c.content.cycles ∷ []) in
+      let tree = sound_as_tree (marks_of c.front) (lemmas_of (lemmas_in c.front)) (net_of p) c.content.cycles (cost_goal (net_of p) least)
+      (lines_of c.content) (root (net_of p) c.content.cycles) (subst F (sym (facts_are_of c.front)) sound) in
+      let S : Option ℕ → Type 0 = λ l. (tree : Tree) × (preorder tree ≡ lines_of c.content)
+      × IsSoundFrom (marks_of c.front) (lemmas_of (lemmas_in c.front)) (net_of p) c.content.cycles (cost_goal (net_of p) l) tree
+      (root (net_of p) c.content.cycles) in
+      let as_new : IsValidFrom (lemmas_in c.front) (marks_of c.front) p new = record {
+        lemmas = marked.lemmas;
+        period = marked.period;
+        answer = shows_still p c.content.answer least (shown_labels c.content) (shown_times c.content) below marked.answer;
+        cycles = marked.cycles;
+        marks = marked.marks;
+        tree = subst S (sym tells.0) tree;
+      } in
+      let reached = reached_by_least (least_of c.content.answer) cost shown
+      (within p c.content.answer (shown_labels c.content) (shown_times c.content) marked.answer)
+      (reached_before (net_of p) c.content.cycles (marks_of c.front) (facts_said c.front) (least_of c.content.answer) known (lines_of c.content)
+      (root (net_of p) c.content.cycles ∷ []) lines) in
+      let R : Content → Type 0 = λ content. IsRetold p c (record { front = c.front; content = content }) in
+      let there : R new = record {
+        valid = valid_behind c.front p new law as_new;
+        told = tells.0 ∙ ap (λ (o : Option ℕ). least_shown o shown) (sym tells.1);
+        same = refl;
+        least = subst (IsAtMost (least_of c.content.answer)) (sym tells.0) reached;
+        cost = tells.1;
+      } in
+      subst R (sym is) there
+
+  -- the same of what was computed
+  module _ (answer : Answer) (cost least : Option ℕ) (shown : List (Option ℕ)) (new : Answer) (a : answer ≡ c.content.answer)
+      (k : cost ≡ cost_of answer) (s : shown ≡ shown_of p c) (l : least ≡ least_shown cost shown) (n : new ≡ answer_of least cost) where
+    new_is : new ≡ answer_of (least_shown (cost_of c.content.answer) (shown_of p c)) (cost_of c.content.answer)
+    new_is =
+        let costs : cost ≡ cost_of c.content.answer = k ∙ ap cost_of a in
+        let leasts : least ≡ least_shown (cost_of c.content.answer) (shown_of p c) =
+        l ∙ ap (λ (x : Option ℕ). least_shown x shown) costs ∙ ap (least_shown (cost_of c.content.answer)) s in
+        n ∙ ap (λ (x : Option ℕ). answer_of x cost) leasts
+        ∙ ap (answer_of (least_shown (cost_of c.content.answer) (shown_of p c))) costs
+
+    pub again_costs : has_costs new ≡ true
+    again_costs = ap has_costs new_is ∙ new_costs
+
+    pub again : (content : Content) → content ≡ record c.content { answer = new }
+        → IsRetold p c (record { front = c.front; content = content })
+    again content is = retold_is content (is ∙ ap (with_new c.content) new_is)

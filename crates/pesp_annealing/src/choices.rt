@@ -2,9 +2,9 @@
 
 use crate::heat::Heat;
 use crate::places::{Places, below};
-use crate::steps::{Line, Steps};
-use pesp_clusters::{Activity, Crossing};
-use pesp_search_tools::Random;
+use crate::steps::{CostStep, Steps};
+use pesp_clusters::{Activity, SlackCrossing};
+use pesp_forest::Random;
 
 /// Which shifts of a set of events are allowed, and by how much each of these is dearer than to leave it.
 #[derive(Drop)]
@@ -21,7 +21,7 @@ fn add(amounts: &mut [i64; 64], place: u32, more: i64) {
     }
 }
 
-impl Line {
+impl CostStep {
     /// What the shift at a place costs more.
     fn at(&self, place: u32) -> i64 {
         let even = self
@@ -46,7 +46,12 @@ impl Choices {
     }
 
     /// Which shifts all these rows allow; it ends where only the one by nothing is left, or none.
-    fn allow(&mut self, steps: &Steps, rows: &[Activity], crossings: &[Crossing]) -> Option<()> {
+    fn allow(
+        &mut self,
+        steps: &Steps,
+        rows: &[Activity],
+        crossings: &[SlackCrossing],
+    ) -> Option<()> {
         let still = steps.still();
         let mut allowed = below(steps.count());
         for crossing in crossings {
@@ -69,7 +74,12 @@ impl Choices {
     }
 
     /// The costs of few allowed shifts.
-    fn cost_few(&mut self, steps: &Steps, rows: &[Activity], crossings: &[Crossing]) -> Option<()> {
+    fn cost_few(
+        &mut self,
+        steps: &Steps,
+        rows: &[Activity],
+        crossings: &[SlackCrossing],
+    ) -> Option<()> {
         self.cost_nothing()?;
         for crossing in crossings {
             let row = rows.get(crossing.row as usize)?;
@@ -94,7 +104,12 @@ impl Choices {
     }
 
     /// The costs of all shifts.
-    fn cost_all(&mut self, steps: &Steps, rows: &[Activity], crossings: &[Crossing]) -> Option<()> {
+    fn cost_all(
+        &mut self,
+        steps: &Steps,
+        rows: &[Activity],
+        crossings: &[SlackCrossing],
+    ) -> Option<()> {
         self.leaps = [0; 64];
         let mut first = 0i64;
         let mut rise = 0i64;
@@ -112,7 +127,12 @@ impl Choices {
     }
 
     /// Finds out which shifts these rows allow, and what they cost.
-    pub fn find(&mut self, steps: &Steps, rows: &[Activity], crossings: &[Crossing]) -> Option<()> {
+    pub fn find(
+        &mut self,
+        steps: &Steps,
+        rows: &[Activity],
+        crossings: &[SlackCrossing],
+    ) -> Option<()> {
         self.allow(steps, rows, crossings)?;
         if self.allowed & !steps.still() == 0 {
             return self.cost_nothing();

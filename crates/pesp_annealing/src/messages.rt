@@ -2,9 +2,9 @@
 
 use crate::choices::draw;
 use crate::heat::Heat;
-use crate::node::Node;
+use crate::node::ClusterTable;
 use crate::places::Places;
-use pesp_search_tools::Random;
+use pesp_forest::Random;
 
 /// Up to how many shifts are looked at one by one.
 const FEW: u32 = 16;
@@ -13,7 +13,7 @@ const FEW: u32 = 16;
 pub(crate) type Message = [u64; 64];
 
 /// Adds the products of a weight with those of pairs of some shifts.
-fn add_few(sums: &mut Message, node: &Node, place: u32, near: u64, weight: u64) {
+fn add_few(sums: &mut Message, node: &ClusterTable, place: u32, near: u64, weight: u64) {
     for above in Places(near) {
         if let Some(sum) = sums.get_mut(above as usize) {
             *sum = sum.wrapping_add(weight.wrapping_mul(node.pair(above, place)));
@@ -22,7 +22,7 @@ fn add_few(sums: &mut Message, node: &Node, place: u32, near: u64, weight: u64) 
 }
 
 /// Adds the products of a weight with those of pairs of all shifts.
-fn add_all(sums: &mut Message, node: &Node, place: u32, weight: u64) {
+fn add_all(sums: &mut Message, node: &ClusterTable, place: u32, weight: u64) {
     let start = 64usize.saturating_sub(place as usize);
     let narrow = weight & 0xffff_ffff;
     for (sum, pair) in sums.iter_mut().zip(node.pairs[start..].iter()) {
@@ -31,7 +31,7 @@ fn add_all(sums: &mut Message, node: &Node, place: u32, weight: u64) {
 }
 
 /// For each shift of the cluster above the sum, over the shifts of this one, of the products of their weights.
-fn sums_of(node: &Node, wanted: u64, sums: &mut Message) {
+fn sums_of(node: &ClusterTable, wanted: u64, sums: &mut Message) {
     *sums = [0; 64];
     for place in Places(node.allowed) {
         let near = node.around(place) & wanted;
@@ -44,7 +44,7 @@ fn sums_of(node: &Node, wanted: u64, sums: &mut Message) {
 }
 
 /// For each shift of the cluster above the least, over the shifts of this one, of the sums of their costs.
-fn least_of(node: &Node, wanted: u64, least: &mut Message) {
+fn least_of(node: &ClusterTable, wanted: u64, least: &mut Message) {
     *least = [u64::MAX; 64];
     for place in Places(node.allowed) {
         let cost = node.shift(place);
@@ -65,7 +65,7 @@ fn excess(numbers: &Message, set: u64) -> u32 {
     36u32.saturating_sub(all.leading_zeros())
 }
 
-impl Node {
+impl ClusterTable {
     /// Multiplies the weights by a message.
     fn multiply(&mut self, sums: &mut Message) {
         let shorter = excess(sums, self.allowed);

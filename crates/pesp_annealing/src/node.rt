@@ -7,7 +7,7 @@ use crate::heat::Heat;
 /// -64, a weight, or where there is no heat a cost. `allowed`, `behind` and `ahead` are the shifts and the differences, below
 /// 0 and from there on, that are allowed.
 #[derive(Clone, Copy)]
-pub(crate) struct Node {
+pub(crate) struct ClusterTable {
     pub(crate) allowed: u64,
     pub(crate) behind: u64,
     pub(crate) ahead: u64,
@@ -39,10 +39,10 @@ fn clear(table: &mut [u64]) {
     }
 }
 
-impl Node {
+impl ClusterTable {
     /// Tables of no shifts.
-    pub(crate) fn empty() -> Node {
-        Node {
+    pub(crate) fn empty() -> ClusterTable {
+        ClusterTable {
             allowed: 0,
             behind: 0,
             ahead: 0,

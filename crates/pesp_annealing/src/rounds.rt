@@ -2,8 +2,8 @@
 
 use crate::heat::Heat;
 use crate::slacks::Slacks;
-use crate::trees::Trees;
-use pesp_clusters::{Bent, Clusters, Cuts, Forest};
+use crate::trees::ClusterTrees;
+use pesp_clusters::{Bent, Clusters, DrawnForest, ForestCuts};
 use std::alloc::{AllocError, Global};
 
 /// The slacks that are being changed, and what rounds are made with.
@@ -11,10 +11,10 @@ use std::alloc::{AllocError, Global};
 pub(crate) struct Rounds {
     pub(crate) slacks: Slacks,
     events: u32,
-    forest: Forest,
-    cuts: Cuts,
+    forest: DrawnForest,
+    cuts: ForestCuts,
     clusters: Clusters,
-    trees: Trees,
+    trees: ClusterTrees,
 }
 
 impl Rounds {
@@ -24,10 +24,10 @@ impl Rounds {
         Ok(Rounds {
             slacks,
             events,
-            forest: Forest::new(alloc, events, rows)?,
-            cuts: Cuts::new(alloc, events)?,
+            forest: DrawnForest::new(alloc, events, rows)?,
+            cuts: ForestCuts::new(alloc, events)?,
             clusters: Clusters::new(alloc, events, rows)?,
-            trees: Trees::new(alloc, events, rows)?,
+            trees: ClusterTrees::new(alloc, events, rows)?,
         })
     }
 

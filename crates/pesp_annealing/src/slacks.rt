@@ -3,10 +3,10 @@
 use crate::choices::Choices;
 use crate::heat::Heat;
 use crate::steps::Steps;
-use pesp_clusters::{Activity, Crossing, Ends, difference_within};
+use pesp_clusters::{Activity, Ends, SlackCrossing, difference_within};
+use pesp_forest::Random;
+use pesp_forest::guarded::number;
 use pesp_network::Network;
-use pesp_search_tools::Random;
-use pesp_search_tools::guarded::number;
 use std::alloc::{AllocError, Global};
 
 /// The rows with their slacks, what these cost, and what shifts are chosen with.
@@ -81,13 +81,21 @@ impl Slacks {
     }
 
     /// Which shifts these rows allow, and what they cost.
-    pub(crate) fn choices(&mut self, steps: &Steps, crossings: &[Crossing]) -> Option<&Choices> {
+    pub(crate) fn choices(
+        &mut self,
+        steps: &Steps,
+        crossings: &[SlackCrossing],
+    ) -> Option<&Choices> {
         self.choices.find(steps, &self.rows, crossings)?;
         Some(&self.choices)
     }
 
     /// Shifts one side of a cut that these rows cross: drawn by weight, or the cheapest.
-    pub(crate) fn shift_side(&mut self, crossings: &[Crossing], heat: Option<Heat>) -> Option<()> {
+    pub(crate) fn shift_side(
+        &mut self,
+        crossings: &[SlackCrossing],
+        heat: Option<Heat>,
+    ) -> Option<()> {
         let steps = self.draw_steps();
         self.choices.find(&steps, &self.rows, crossings)?;
         let place = match heat {

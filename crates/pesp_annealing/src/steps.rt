@@ -2,7 +2,7 @@
 
 use crate::places::{below, turned};
 use pesp_clusters::{Activity, difference_within, sum_within};
-use pesp_search_tools::Random;
+use pesp_forest::Random;
 
 /// At most 64 shifts: the first one, and each further one larger by two to the power of `doublings`, modulo the period. In
 /// a period up to 64 they are all shifts from 0. `still` has the place of the shift by nothing, where that is one of them.
@@ -18,7 +18,7 @@ pub struct Steps {
 /// What a row costs more under the shifts in turn: by `rise` more for each, from `first`, and by `leap` more from the one
 /// at `turn` on.
 #[derive(Clone, Copy)]
-pub(crate) struct Line {
+pub(crate) struct CostStep {
     pub(crate) first: i64,
     pub(crate) rise: i64,
     pub(crate) leap: i64,
@@ -123,7 +123,7 @@ impl Steps {
     }
 
     /// What a row costs under the shifts.
-    pub(crate) fn line(&self, row: &Activity, grows: bool) -> Line {
+    pub(crate) fn line(&self, row: &Activity, grows: bool) -> CostStep {
         let (slack, turn) = self.turn(row, grows);
         let sign = if grows {
             row.weight
@@ -131,7 +131,7 @@ impl Steps {
             row.weight.wrapping_neg()
         };
         let more = i64::from(slack).wrapping_sub(i64::from(row.slack));
-        Line {
+        CostStep {
             first: row.weight.wrapping_mul(more),
             rise: sign.wrapping_shl(self.doublings),
             leap: sign.wrapping_neg().wrapping_mul(i64::from(self.period)),

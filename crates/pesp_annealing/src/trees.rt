@@ -2,29 +2,33 @@
 
 use crate::choices::Choices;
 use crate::heat::Heat;
-use crate::node::Node;
+use crate::node::ClusterTable;
 use crate::slacks::Slacks;
 use crate::steps::Steps;
 use pesp_clusters::{Clusters, Induced, NONE, Placed};
-use pesp_search_tools::guarded::{fill, number, set_number};
+use pesp_forest::guarded::{fill, number, set_number};
 use std::alloc::{AllocError, Global};
 
 /// An induced forest with the tables of its clusters, the places of the shifts that are drawn for these, and the amount by
 /// which each cluster is shifted.
 #[derive(Drop)]
-pub(crate) struct Trees {
+pub(crate) struct ClusterTrees {
     induced: Induced,
-    nodes: Vec<Node>,
+    nodes: Vec<ClusterTable>,
     backwards: Choices,
     message: [u64; 64],
     drawn: Vec<u32>,
     amounts: Vec<u32>,
 }
 
-impl Trees {
+impl ClusterTrees {
     /// Room for forests of so many clusters, with so many rows.
-    pub(crate) fn new(alloc: Global, clusters: u32, rows: usize) -> Result<Trees, AllocError> {
-        Ok(Trees {
+    pub(crate) fn new(
+        alloc: Global,
+        clusters: u32,
+        rows: usize,
+    ) -> Result<ClusterTrees, AllocError> {
+        Ok(ClusterTrees {
             induced: Induced::new(alloc, clusters, rows)?,
             nodes: Vec::new(alloc),
             backwards: Choices::none(),
@@ -37,7 +41,7 @@ impl Trees {
     /// Makes room for the tables of the forest.
     fn make_room(&mut self) -> Result<(), AllocError> {
         for _ in self.nodes.len()..self.induced.placed().len() {
-            self.nodes.push(Node::empty())?;
+            self.nodes.push(ClusterTable::empty())?;
         }
         Ok(())
     }

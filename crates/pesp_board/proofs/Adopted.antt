@@ -14,32 +14,32 @@ use Rattle.pesp_problem.specs.Arcs as nets
 use Rattle.pesp_problem.specs.Nodes.{root}
 use Rattle.pesp_truth.specs.declared.answer.Answer.{Answer}
 use Rattle.pesp_truth.specs.declared.answer.Answer.TheVariants.{Optimal, Infeasible, Bounded}
-use Rattle.pesp_truth.specs.Trees.{Tree, Line, AreSound, are_trees, preorder}
-use Rattle.pesp_truth.specs.Certificates.{Content, IsValid, least_of, lines_of, line_of, shown_times}
+use Rattle.pesp_truth.specs.Trees.{Plain, Tree, Line, AreSound, are_trees, preorder, line_of}
+use Rattle.pesp_truth.specs.Certificates.{Content, IsValid, least_of, lines_of, shown_times}
 use Rattle.pesp_truth.specs.Certificates as certificates
 use Rattle.pesp_truth.proofs.Lines.{sound_as_lines}
 use Rattle.pesp_network.specs.Networks.{KeepsNetLimits}
 use Rattle.pesp_nodes.specs.Problems.{ProblemValue, IsSmallTable}
-use Rattle.pesp_tree.specs.WorkTrees.{WorkTreeValue, opening, with_room}
-use Rattle.pesp_queue.specs.declared.entry.Entry.{Entry}
-use Rattle.pesp_queue.specs.Entries.{entry}
-use Rattle.pesp_queue.specs.Queues.{QueueValue}
-use Rattle.pesp_text.specs.Number.{NATURALS}
+use Rattle.pesp_tree.specs.WorkTrees.{WorkTreeValue, opening_tree, with_room}
+use Rattle.pesp_tree.specs.declared.entry.Entry.{Entry}
+use Rattle.pesp_tree.specs.Entries.{entry}
+use Rattle.pesp_tree.specs.Queues.{QueueValue}
+use Rattle.pesp_stream.specs.Number.{NATURALS}
 use Rattle.pesp_cert_lines.proofs.Tests.{and_left}
-use Rattle.pesp_cert.specs.Limits.{has_costs, is_cost, KeepsLimits}
-use Rattle.pesp_machine.specs.Limits.{pairs_in, KeepsTreeLimits}
-use Rattle.pesp_machine.specs.States.{State, root_of, least, best_cost, IsAtMost}
-use Rattle.pesp_machine.specs.Certificates.{IsProblemOf}
-use Rattle.pesp_machine.specs.Adopting.{shown_best, Adopts}
-use Rattle.pesp_machine.proofs.Certified.{same_net}
-use Rattle.pesp_machine.proofs.Adopting.{adopted_is_orderly}
-use Rattle.pesp_machine.proofs.Tightening.{adopted_bound, adopted_cost}
+use Rattle.pesp_cert.specs.Limits.{has_costs, is_cost, ContentKeepsLimits}
+use Rattle.pesp_tree.specs.Limits.{pairs_in, KeepsTreeLimits}
+use Rattle.pesp_tree.specs.States.{State, root_of, least, best_cost, IsAtMost}
+use Rattle.pesp_tree.specs.Certificates.{IsProblemOf}
+use Rattle.pesp_tree.specs.Adopting.{shown_best, Adopts}
+use Rattle.pesp_tree.proofs.Certified.{same_net}
+use Rattle.pesp_tree.proofs.Adopting.{adopted_is_orderly}
+use Rattle.pesp_tree.proofs.Tightening.{adopted_bound, adopted_cost}
 use Rattle.pesp_board.specs.declared.best.Best.{Best}
 use Rattle.pesp_board.specs.declared.part.Part.{Part}
 use Rattle.pesp_board.specs.declared.slot.Slot.{Slot}
-use Rattle.pesp_board.specs.Insides.{ticket_of, times_of, cost_of, state_of, IsQueue, IsBoard}
+use Rattle.pesp_board.specs.Insides.{ticket_of, times_of, best_cost_of, state_of, IsQueue, IsBoard}
 use Rattle.pesp_board.specs.Parts.{part_line, part_lines, AreValued}
-use Rattle.pesp_board.specs.Growing.{grown, news}
+use Rattle.pesp_board.specs.Growing.{with_parts, news}
 use Rattle.pesp_board.specs.Adopting.{AreSoundLines, AreLinesOf, IsPlantedAlone, IsGrownOf}
 use Rattle.pesp_board.proofs.Queues.{none_held}
 use Rattle.pesp_board.proofs.Opening.{nothing_lent}
@@ -58,12 +58,12 @@ certificate_sound i p content o cycles v =
     let n : Net = nets.net_of i in
     let bound = least_of content.answer in
     let lines = lines_of content in
-    let sound : AreSound None n content.cycles bound lines (root n content.cycles ∷ []) =
-    sound_as_lines None n content.cycles bound lines (root n content.cycles) v.tree in
-    let on_table : AreSound None n p.table bound lines (root n p.table ∷ []) =
-    subst (λ (table : List (List SignedRow)). AreSound None n table bound lines (root n table ∷ []))
+    let sound : AreSound (Plain bound) n content.cycles lines (root n content.cycles ∷ []) =
+    sound_as_lines (Plain bound) n content.cycles lines (root n content.cycles) v.tree in
+    let on_table : AreSound (Plain bound) n p.table lines (root n p.table ∷ []) =
+    subst (λ (table : List (List SignedRow)). AreSound (Plain bound) n table lines (root n table ∷ []))
     (sym cycles) sound in
-    (bound, subst (λ (m : Net). AreSound None m p.table bound lines (root m p.table ∷ [])) (sym (same_net i p o)) on_table)
+    (bound, subst (λ (m : Net). AreSound (Plain bound) m p.table lines (root m p.table ∷ [])) (sym (same_net i p o)) on_table)
 
 short : (n : ℕ) → nat_lt n NATURALS ≡ true → n ≤ 999999999999999999
 short n e = grind (arith, nat_tests, e)
@@ -74,7 +74,7 @@ bound_is_short Infeasible e = tt
 bound_is_short (Bounded l cost) e = short l (and_left (nat_lt l NATURALS) (is_cost cost) e)
 
 -- as many parts as lines
-pub parts_few : (content : Content) (parts : List Part) → part_lines parts ≡ lines_of content → KeepsLimits content → length parts ≤ 1000000
+pub parts_few : (content : Content) (parts : List Part) → part_lines parts ≡ lines_of content → ContentKeepsLimits content → length parts ≤ 1000000
 parts_few content parts said k =
     let same = ap (λ (l : List Line). length l) said in
     let most = k.lines in
@@ -86,19 +86,19 @@ no_items : {X : Type 0} (xs : List X) → length xs ≡ 0 → xs ≡ []
 no_items [] e = refl
 no_items (x ∷ xs) e = absurd (omega (arith, e))
 
-pub planted_alone : (parts : List Part) (t u v : WorkTreeValue) (q w : QueueValue) → t ≡ opening
+pub planted_alone : (parts : List Part) (t u v : WorkTreeValue) (q w : QueueValue) → t ≡ opening_tree
     → u ≡ with_room t u.room → q.waiting ≡ [] → q.parked ≡ [] → AreAllPlanted u q (0 ∷ []) parts v w
     → IsPlantedAlone parts v w
 planted_alone parts t u v q w first room waiting parked all =
-    let is : u ≡ with_room opening u.room = room ∙ ap (λ (x : WorkTreeValue). with_room x u.room) first in
+    let is : u ≡ with_room opening_tree u.room = room ∙ ap (λ (x : WorkTreeValue). with_room x u.room) first in
     let entries : news u (0 ∷ []) parts ++ q.waiting
-    ≡ news (with_room opening u.room) (0 ∷ []) parts =
+    ≡ news (with_room opening_tree u.room) (0 ∷ []) parts =
     ap (λ (xs : List Entry). news u (0 ∷ []) parts ++ xs) waiting ∙ append-nil (news u (0 ∷ []) parts)
     ∙ ap (λ (x : WorkTreeValue). news x (0 ∷ []) parts) is in
     let fewer : length q.parked ≡ 0 = ap (λ (xs : List Entry). length xs) parked in
     record {
       room = u.room;
-      tree = all.tree ∙ ap (λ (x : WorkTreeValue). grown x (0 ∷ []) parts) is;
+      tree = all.tree ∙ ap (λ (x : WorkTreeValue). with_parts x (0 ∷ []) parts) is;
       waiting = subst (λ (xs : List Entry). IsPermutation xs w.waiting) entries all.waits;
       parked = no_items w.parked (omega (arith, fewer, length_permutation _ _ all.parked));
     }
@@ -109,9 +109,9 @@ module _ (p : ProblemValue) (parts : List Part) (u : WorkTreeValue) (r : QueueVa
     (shape : are_trees 1 (part_lines parts) ≡ true) (valued : AreValued p (root_of p ∷ []) parts)
     (k : IsPlantedAlone parts u r) where
   abbrev alone : WorkTreeValue
-  alone = with_room opening k.room
+  alone = with_room opening_tree k.room
 
-  changed : IsChanged p alone (grown alone (0 ∷ []) parts) 0 (news alone (0 ∷ []) parts)
+  changed : IsChanged p alone (with_parts alone (0 ∷ []) parts) 0 (news alone (0 ∷ []) parts)
   changed = one_changed p alone 0 parts refl refl shape valued
 
   pub alone_queue : (slots : List Slot) → slots ≡ [] → IsQueue p u slots r
@@ -135,14 +135,14 @@ module _ (p : ProblemValue) (parts : List Part) (u : WorkTreeValue) (r : QueueVa
 pub record IsMadeOf (i : Pesp) (p : ProblemValue) (content : Content) (pairs : ℕ) (u : WorkTreeValue)
     (r : QueueValue) (slots : List Slot) (best : Option Best) : Type 0 where
   pub instance : instances.KeepsLimits i
-  pub certificate : KeepsLimits content
+  pub certificate : ContentKeepsLimits content
   pub valid : IsValid None i content
   pub of : IsProblemOf i p
   pub cycles : p.table ≡ content.cycles
   pub grown : IsGrownOf p content u r pairs
   pub none : slots ≡ []
   pub times : times_of best ≡ shown_best content.answer (shown_times content)
-  pub cost : cost_of best ≡ certificates.cost_of content.answer
+  pub cost : best_cost_of best ≡ certificates.cost_of content.answer
 
 module _ (i : Pesp) (p : ProblemValue) (content : Content) (pairs : ℕ) (u : WorkTreeValue) (r : QueueValue)
     (slots : List Slot) (best : Option Best) (m : IsMadeOf i p content pairs u r slots best) where

@@ -19,22 +19,22 @@ use Rattle.pesp_network.specs.Networks.{NetworkValue, arc_of_net, KeepsNetLimits
 use Rattle.pesp_truth.specs.declared.answer.Answer.TheVariants.{Optimal, Bounded}
 use Rattle.pesp_truth.specs.declared.tree.TreeLine.{TreeLine}
 use Rattle.pesp_truth.specs.declared.tree.TreeLine.TheVariants.{Slack, Offset, Bound, Nothing, Gap, Propagated}
-use Rattle.pesp_truth.specs.Trees.{preorder}
-use Rattle.pesp_truth.specs.Certificates.{Content, line_of, lines_of, shown_times, shown_labels}
+use Rattle.pesp_truth.specs.Trees.{preorder, line_of}
+use Rattle.pesp_truth.specs.Certificates.{Content, lines_of, shown_times, shown_labels}
 use Rattle.pesp_truth.proofs.Lines.{whole_tree}
-use Rattle.pesp_nodes.specs.Problems.{ProblemValue, net_of, IsSmallTable, IsPairOf, ArePairs, Rise}
-use Rattle.pesp_text.specs.Number.{NATURALS}
+use Rattle.pesp_nodes.specs.Problems.{ProblemValue, problem_net, IsSmallTable, IsPairOf, ArePairs, Rise}
+use Rattle.pesp_stream.specs.Number.{NATURALS}
 use Rattle.pesp_cert_lines.specs.Rows.{is_name, rows_are_named}
 use Rattle.pesp_cert_lines.specs.Pairs.{is_pair_within, all_within, follows, rise_from}
 use Rattle.pesp_cert_lines.proofs.Tests.{and_both}
-use Rattle.pesp_machine.specs.Leaves.{least_value, told}
-use Rattle.pesp_machine.specs.States.{State, BoardValue, root_of, least, best_cost}
-use Rattle.pesp_machine.specs.Limits.{IsLineOf}
-use Rattle.pesp_machine.specs.Limits as machine
-use Rattle.pesp_machine.specs.Reached.{IsOrderly}
-use Rattle.pesp_machine.specs.Certificates.{answer_of, is_propagated, version_of, ShowsBest, IsCertificateOf}
-use Rattle.pesp_machine.proofs.Costs.{costs_are_small}
-use Rattle.pesp_cert.specs.Limits.{has_costs, is_time, is_cycle, is_line, has_line, pairs_in, total_pairs, KeepsLimits}
+use Rattle.pesp_tree.specs.BoardLeaves.{least_value, told}
+use Rattle.pesp_tree.specs.States.{State, BoardValue, root_of, least, best_cost}
+use Rattle.pesp_tree.specs.Limits.{IsLineOf}
+use Rattle.pesp_tree.specs.Limits as machine
+use Rattle.pesp_tree.specs.Reached.{IsOrderly}
+use Rattle.pesp_tree.specs.Certificates.{answer_of, is_propagated, version_of, ShowsBest, IsCertificateOf}
+use Rattle.pesp_tree.proofs.Costs.{costs_are_small}
+use Rattle.pesp_cert.specs.Limits.{has_costs, is_time, is_cycle, line_keeps_limits, has_line, count_pairs, total_pairs, ContentKeepsLimits}
 
 -- ---- costs
 
@@ -47,7 +47,7 @@ told_is_short None = tt
 told_is_short (Some (pos n)) = omega arith
 told_is_short (Some (negsuc n)) = omega arith
 
-cost_is_short : (p : ProblemValue) (best : Option (List ℕ)) → KeepsNetLimits p.network → IsShort (option_map (net_cost (net_of p)) best)
+cost_is_short : (p : ProblemValue) (best : Option (List ℕ)) → KeepsNetLimits p.network → IsShort (option_map (net_cost (problem_net p)) best)
 cost_is_short p None limits = tt
 cost_is_short p (Some times) limits = omega (arith, costs_are_small p.network times limits)
 
@@ -84,7 +84,7 @@ record TimesFit (ts : List (ℤ × ℕ)) : Type 0 where
   each : list_all is_time ts ≡ true
 
 shown_fit : (i : Pesp) (p : ProblemValue) (best : Option (List ℕ)) (ts : List (ℤ × ℕ)) → instances.KeepsLimits i
-    → KeepsNetLimits p.network → IfSome best (IsNetTimetable (net_of p) p.network.events)
+    → KeepsNetLimits p.network → IfSome best (IsNetTimetable (problem_net p) p.network.events)
     → ShowsBest i.events best (map (λ t. t.0) ts) (map (λ t. t.1) ts) → TimesFit ts
 shown_fit i p None ts l n k s = rw (no_times ts s) (record { few = omega arith; each = refl })
 shown_fit i p (Some best) ts l n k s = record {
@@ -144,26 +144,26 @@ do_rise n least (pair ∷ pairs) from rise each =
     omega (arith, above)) (λ i j d below l. rise (suc i) (suc j) d (omega (arith, below)) (omega (arith, l)))
     (All-tail (IsPairOf n) pair pairs each))
 
-are_pairs_fit : (n : ℕ) (pairs : List Pair) → n ≤ 100000 → ArePairs n pairs → is_line (Bound pairs) ≡ true
+are_pairs_fit : (n : ℕ) (pairs : List Pair) → n ≤ 100000 → ArePairs n pairs → line_keeps_limits (Bound pairs) ≡ true
 are_pairs_fit n pairs few h = and_both (rise_from 0 pairs) (all_within pairs)
     (do_rise n 0 pairs (λ i d l. omega arith) h.rise h.each) (pairs_fit n pairs few h.each)
 
 -- ---- lines
 
-slack_fits : (count row k : ℕ) → (1 ≤ row) × (row ≤ count) → count ≤ 100000 → k ≤ 9999 → is_line (Slack row k) ≡ true
+slack_fits : (count row k : ℕ) → (1 ≤ row) × (row ≤ count) → count ≤ 100000 → k ≤ 9999 → line_keeps_limits (Slack row k) ≡ true
 slack_fits count row k h few small = (let low = h.0 in let high = h.1 in grind (arith, nat_tests))
 
 offset_fits : (count cycle : ℕ) (k : ℤ) → (1 ≤ cycle) × (cycle ≤ count) → count ≤ 100000
-    → unsigned_abs k ≤ 100000000000000 → is_line (Offset cycle k) ≡ true
+    → unsigned_abs k ≤ 100000000000000 → line_keeps_limits (Offset cycle k) ≡ true
 offset_fits count cycle k h few small = (let low = h.0 in let high = h.1 in grind (arith, nat_tests))
 
 line_fits : (p : ProblemValue) (line : TreeLine) → KeepsNetLimits p.network → IsSmallTable p.table
-    → IsLineOf p (line_of line) → is_line line ≡ true
+    → IsLineOf p (line_of line) → line_keeps_limits line ≡ true
 line_fits p (Slack row k) n t h = (let long = length-map p.network.rows arc_of_net in
-    let wide = length-map (net_of p).arcs (λ (arc : Arc). let range : ℕ × ℕ = (0, arc.span) in range) in
+    let wide = length-map (problem_net p).arcs (λ (arc : Arc). let range : ℕ × ℕ = (0, arc.span) in range) in
     let few = n.rows_most in slack_fits (length (root_of p).slacks) row k h.0 (omega (arith, long, wide, few)) h.1)
 line_fits p (Offset cycle k) n t h = (let wide =
-    length-map p.table (odijk_range (net_of p) (root_slacks (net_of p))) in let few = t.cycles in
+    length-map p.table (odijk_range (problem_net p) (root_slacks (problem_net p))) in let few = t.cycles in
     offset_fits (length (root_of p).offsets) cycle k h.0 (omega (arith, wide, few)) h.1)
 line_fits p (Bound pairs) n t h = are_pairs_fit (length p.table) pairs t.cycles h
 line_fits p (Nothing pairs) n t h = are_pairs_fit (length p.table) pairs t.cycles h
@@ -171,7 +171,7 @@ line_fits p (Gap cycle) n t h = row_fits (length p.table) cycle h t.cycles
 line_fits p Propagated n t h = refl
 
 pub lines_fit : (p : ProblemValue) (lines : List TreeLine) → KeepsNetLimits p.network → IsSmallTable p.table
-    → All (IsLineOf p) (map line_of lines) → list_all is_line lines ≡ true
+    → All (IsLineOf p) (map line_of lines) → list_all line_keeps_limits lines ≡ true
 lines_fit p [] n t h = refl
 lines_fit p (line ∷ lines) n t h = rw (
   line_fits p line n t
@@ -179,7 +179,7 @@ lines_fit p (line ∷ lines) n t h = rw (
   lines_fit p lines n t (All-tail (IsLineOf p) (line_of line) (map line_of lines) h),
 ) refl
 
-same_pairs_in : (line : TreeLine) → pairs_in line ≡ machine.pairs_in (line_of line)
+same_pairs_in : (line : TreeLine) → count_pairs line ≡ machine.pairs_in (line_of line)
 same_pairs_in (Slack row k) = refl
 same_pairs_in (Offset cycle k) = refl
 same_pairs_in (Bound pairs) = refl
@@ -192,7 +192,7 @@ same_pairs [] = refl
 same_pairs (line ∷ lines) =
     let this = same_pairs_in line in
     let others = same_pairs lines in
-    omega (arith, this, others, sum_by-cons pairs_in line lines, sum_by-cons machine.pairs_in (line_of line) (map line_of lines))
+    omega (arith, this, others, sum_by-cons count_pairs line lines, sum_by-cons machine.pairs_in (line_of line) (map line_of lines))
 
 -- ---- the version
 
@@ -241,26 +241,26 @@ version_fits version lines e = subst (λ (v : ℕ). HasLines v lines) (sym e)
 -- ---- all of it
 
 pub keeps_limits : (i : Pesp) (p : ProblemValue) (state : State) (content : Content) → instances.KeepsLimits i
-    → KeepsNetLimits p.network → IsSmallTable p.table → All (IsWalk (net_of p).arcs) p.table → IsOrderly p state
-    → IsCertificateOf p i.events state content → KeepsLimits content
+    → KeepsNetLimits p.network → IsSmallTable p.table → All (IsWalk (problem_net p).arcs) p.table → IsOrderly p state
+    → IsCertificateOf p i.events state content → ContentKeepsLimits content
 keeps_limits i p state content l n t walks o c =
     let known = version_fits content.version content.tree (c.version ∙ ap version_of (sym c.tree)) in
     let shown = shown_fit i p state.best content.times l n o.kept.best c.times in
     let long : length content.tree ≡ length (preorder state.tree) = sym (length-map content.tree line_of) ∙ ap length c.tree in
     let many : total_pairs content.tree ≡ sum_by machine.pairs_in (preorder state.tree) = same_pairs content.tree
     ∙ ap (sum_by machine.pairs_in) c.tree in
-    let few : length (net_of p).arcs ≤ 100000 =
+    let few : length (problem_net p).arcs ≤ 100000 =
     (let same = length-map p.network.rows arc_of_net in let most = n.rows_most in omega (arith, same, most)) in
     record {
       version = known.0;
       period = rw c.period (n.some_period, n.period_most);
       answer = rw c.answer (costs_fit (least p state) (best_cost p state)
-          (told_is_short (least_value (net_of p) p.table state.tree (root_of p))) (cost_is_short p state.best n));
+          (told_is_short (least_value (problem_net p) p.table state.tree (root_of p))) (cost_is_short p state.best n));
       times = shown.few;
       each_time = shown.each;
       cycles = rw c.cycles t.cycles;
       rows = rw c.cycles t.rows;
-      each_cycle = rw c.cycles (cycles_fit (net_of p).arcs p.table few walks);
+      each_cycle = rw c.cycles (cycles_fit (problem_net p).arcs p.table few walks);
       lines = (let small = o.limits.small.lines in omega (arith, long, small));
       pairs = (let small = o.limits.small.pairs in omega (arith, many, small));
       each_line = lines_fit p content.tree n t (subst (All (IsLineOf p)) (sym c.tree) o.limits.lines);

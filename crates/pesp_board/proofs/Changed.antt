@@ -14,10 +14,10 @@ use Rattle.pesp_truth.specs.Paths.{along}
 use Rattle.pesp_nodes.specs.Problems.{ProblemValue}
 use Rattle.pesp_tree.specs.WorkTrees.{WorkTreeValue, path_to, leaf_at, with_leaf, with_branch}
 use Rattle.pesp_tree.proofs.Effects.{put_here, put_others, split_here, split_low, split_high, split_others, path_low, path_high, path_others}
-use Rattle.pesp_queue.specs.declared.entry.Entry.{Entry}
-use Rattle.pesp_queue.specs.Entries.{entry, HasItem}
-use Rattle.pesp_machine.specs.Leaves.{told}
-use Rattle.pesp_machine.specs.States.{root_of, node_at, value_at}
+use Rattle.pesp_tree.specs.declared.entry.Entry.{Entry}
+use Rattle.pesp_tree.specs.Entries.{entry, HasItem}
+use Rattle.pesp_tree.specs.BoardLeaves.{told}
+use Rattle.pesp_tree.specs.States.{root_of, node_at, value_at}
 use Rattle.pesp_board.specs.Insides.{IsWorth}
 use Rattle.pesp_board.specs.Parts.{IsWorthAt}
 use Rattle.pesp_board.specs.Growing.{waits}

@@ -8,11 +8,11 @@ use Rattle.pesp_problem.specs.declared.pair.Pair.{Pair}
 use Rattle.pesp_truth.specs.Trees.{Bound}
 use Rattle.pesp_nodes.specs.Problems.{ProblemValue}
 use Rattle.pesp_tree.specs.WorkTrees.{WorkTreeValue, path_to, leaf_at}
-use Rattle.pesp_queue.specs.declared.entry.Entry.{Entry}
-use Rattle.pesp_queue.specs.Entries.{entry, HasItem, ItemsDiffer}
-use Rattle.pesp_queue.specs.Queues.{QueueValue, all_of}
-use Rattle.pesp_machine.specs.Leaves.{told}
-use Rattle.pesp_machine.specs.States.{value_at}
+use Rattle.pesp_tree.specs.declared.entry.Entry.{Entry}
+use Rattle.pesp_tree.specs.Entries.{entry, HasItem, ItemsDiffer}
+use Rattle.pesp_tree.specs.Queues.{QueueValue, all_of}
+use Rattle.pesp_tree.specs.BoardLeaves.{told}
+use Rattle.pesp_tree.specs.States.{value_at}
 use Rattle.pesp_board.specs.declared.slot.Slot.{Slot}
 use Rattle.pesp_board.specs.declared.slot.Slot.TheVariants.{Lent as LentSlot, Given as GivenSlot}
 use Rattle.pesp_board.specs.Insides.{slot_at, IsWorth, IsQueue}

@@ -8,17 +8,17 @@ use Rattle.pesp_truth.specs.Leaves.{put}
 use Rattle.pesp_truth.proofs.Lines.{whole_tree}
 use Rattle.pesp_nodes.specs.Problems.{ProblemValue}
 use Rattle.pesp_tree.specs.WorkTrees.{WorkTreeValue, IsWhole, path_to, leaf_at, with_room}
-use Rattle.pesp_queue.specs.Entries.{entry, HasItem, ItemsDiffer}
-use Rattle.pesp_queue.specs.Queues.{QueueValue, all_of}
-use Rattle.pesp_machine.specs.declared.work.Work.{Work}
-use Rattle.pesp_machine.specs.declared.refusal.GiveRefusal.{GiveRefusal}
-use Rattle.pesp_machine.specs.declared.refusal.GiveRefusal.TheVariants.{UnknownJob, AlreadyGiven, NotValid, Memory, TooLarge}
-use Rattle.pesp_machine.specs.Limits.{pairs_in}
-use Rattle.pesp_machine.specs.States.{State, Lent, Given, HasLeaf}
-use Rattle.pesp_machine.specs.Events.{Gives, Takes, Give}
-use Rattle.pesp_machine.proofs.Making.{not_valid_is}
-use Rattle.pesp_machine.proofs.Sizes.{put_lines_add_up}
-use Rattle.pesp_machine.proofs.Runs.{step_is_orderly}
+use Rattle.pesp_tree.specs.Entries.{entry, HasItem, ItemsDiffer}
+use Rattle.pesp_tree.specs.Queues.{QueueValue, all_of}
+use Rattle.pesp_tree.specs.declared.work.Work.{Work}
+use Rattle.pesp_tree.specs.declared.refusal.GiveRefusal.{GiveRefusal}
+use Rattle.pesp_tree.specs.declared.refusal.GiveRefusal.TheVariants.{UnknownJob, AlreadyGiven, NotValid, Memory, TooLarge}
+use Rattle.pesp_tree.specs.Limits.{pairs_in}
+use Rattle.pesp_tree.specs.States.{State, Lent, Given, HasLeaf}
+use Rattle.pesp_tree.specs.Events.{Gives, Takes, Give}
+use Rattle.pesp_tree.proofs.Making.{not_valid_is}
+use Rattle.pesp_tree.proofs.Sizes.{put_lines_add_up}
+use Rattle.pesp_tree.proofs.Runs.{step_is_orderly}
 use Rattle.pesp_board.specs.declared.best.Best.{Best}
 use Rattle.pesp_board.specs.declared.slot.Slot.{Slot}
 use Rattle.pesp_board.specs.declared.slot.Slot.TheVariants.{Lent as LentSlot, Given as GivenSlot, Recalled as RecalledSlot}
@@ -26,7 +26,7 @@ use Rattle.pesp_board.specs.declared.part.Part.{Part}
 use Rattle.pesp_board.specs.Insides.{ticket_of, times_of, state_of, slot_at, IsBoard, IsQueue}
 use Rattle.pesp_board.specs.Parts.{part_line, part_lines}
 use Rattle.pesp_board.specs.Giving.{LendsOrRefuses, MakesAt, MakesPart, IsWorkable, IsSameQueue}
-use Rattle.pesp_board.specs.Growing.{grown, news, IsPlanted}
+use Rattle.pesp_board.specs.Growing.{with_parts, news, IsPlanted}
 use Rattle.pesp_board.proofs.Slots.{ticket_is, map_set, one_number}
 use Rattle.pesp_board.proofs.Lending.{some_leaf}
 use Rattle.pesp_board.proofs.Lent.{leaf_within}
@@ -138,7 +138,7 @@ parts_shape p t node count work parts m = (whole_tree (part_lines parts)).1 (m.m
 -- what the lent leaf becomes
 parts_changed : (p : ProblemValue) (t : WorkTreeValue) (node count room : ℕ) (work : Work) (parts : List Part)
     → IsWhole t → MakesPart p t node work parts count
-    → IsChanged p t (grown (with_room t room) (node ∷ []) parts) node (news (with_room t room) (node ∷ []) parts)
+    → IsChanged p t (with_parts (with_room t room) (node ∷ []) parts) node (news (with_room t room) (node ∷ []) parts)
 parts_changed p t node count room work parts w m =
     let c = one_changed p (with_room t room) node parts w.counted
     (some_leaf (leaf_at t node) (Bound m.pairs) m.leaf)
@@ -147,7 +147,7 @@ parts_changed p t node count room work parts w m =
 
 tree_with : (p : ProblemValue) (t : WorkTreeValue) (node count room : ℕ) (work : Work) (parts : List Part)
     → IsWhole t → (m : MakesPart p t node work parts count)
-    → (grown (with_room t room) (node ∷ []) parts).tree ≡ put t.tree (path_to t node) m.made.tree
+    → (with_parts (with_room t room) (node ∷ []) parts).tree ≡ put t.tree (path_to t node) m.made.tree
 tree_with p t node count room work parts w m =
     one_tree_grown (with_room t room) node parts m.made.tree w.counted
     (some_leaf (leaf_at t node) (Bound m.pairs) m.leaf) m.made.lines
@@ -156,10 +156,10 @@ taken : (p : ProblemValue) (t : WorkTreeValue) (slots : List Slot) (q : QueueVal
     (old count number node room : ℕ) (work : Work) (parts : List Part) → IsBoard p t slots q best old
     → IsLentWith slots number node → MakesPart p t node work parts count
     → Takes p (state_of t slots (times_of best)) number work
-    (state_of (grown (with_room t room) (node ∷ []) parts) (set slots number GivenSlot) (times_of best))
+    (state_of (with_parts (with_room t room) (node ∷ []) parts) (set slots number GivenSlot) (times_of best))
 taken p t slots q best old count number node room work parts b l m =
     let c = parts_changed p t node count room work parts b.whole m in
-    let tickets = state_with p t (grown (with_room t room) (node ∷ []) parts) slots q best old number b c.paths in
+    let tickets = state_with p t (with_parts (with_room t room) (node ∷ []) parts) slots q best old number b c.paths in
     record {
       path = path_to t node;
       pairs = m.pairs;
@@ -185,7 +185,7 @@ pub given_board : (p : ProblemValue) (t u : WorkTreeValue) (slots : List Slot) (
     → MakesPart p t node work parts count
     → IsPlanted t q node parts u r → IsWhole u → IsBoard p u (set slots number GivenSlot) r best count
 given_board p t u slots q r best old count number node work parts b l differ m k whole =
-    let new = grown (with_room t k.room) (node ∷ []) parts in
+    let new = with_parts (with_room t k.room) (node ∷ []) parts in
     rw (k.tree) (record {
       network = b.network;
       table = b.table;

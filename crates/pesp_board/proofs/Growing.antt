@@ -16,15 +16,15 @@ use Rattle.pesp_tree.specs.Leaves.{leaf_of}
 use Rattle.pesp_tree.specs.WorkTrees.{WorkTreeValue, path_to, leaf_at}
 use Rattle.pesp_tree.proofs.Effects.{put_others, split_low, split_high, split_others, path_low, path_high, path_others}
 use Rattle.pesp_tree.proofs.Standing.{not_none, in_range}
-use Rattle.pesp_queue.specs.declared.entry.Entry.{Entry}
-use Rattle.pesp_queue.specs.Entries.{entry, HasItem}
-use Rattle.pesp_machine.specs.Leaves.{told}
-use Rattle.pesp_machine.specs.States.{root_of, node_at, value_at}
+use Rattle.pesp_tree.specs.declared.entry.Entry.{Entry}
+use Rattle.pesp_tree.specs.Entries.{entry, HasItem}
+use Rattle.pesp_tree.specs.BoardLeaves.{told}
+use Rattle.pesp_tree.specs.States.{root_of, node_at, value_at}
 use Rattle.pesp_board.specs.declared.part.Part.{Part}
 use Rattle.pesp_board.specs.declared.part.Part.TheVariants.{Cut as CutPart, Leaf as LeafPart}
 use Rattle.pesp_board.specs.Insides.{IsWorth}
 use Rattle.pesp_board.specs.Parts.{part_line, part_lines, IsValued, AreValued}
-use Rattle.pesp_board.specs.Growing.{waits, blank, part_value, with_part, next, grown, news, AreOthers, AreSites}
+use Rattle.pesp_board.specs.Growing.{waits, blank_leaf, part_value, with_part, next, with_parts, news, AreOthers, AreSites}
 use Rattle.pesp_board.proofs.Changing.{IsChanged}
 use Rattle.pesp_board.proofs.Changed.{leaf_changed, branch_changed}
 use Rattle.pesp_board.proofs.Lent.{leaf_within}
@@ -41,11 +41,11 @@ pub site_within : (t : WorkTreeValue) (n : ℕ) → IsSome (leaf_at t n) → n <
 site_within t n h = in_range t.leaves n (not_none (leaf_at t n) h)
 
 pub long_part : (t : WorkTreeValue) (n : ℕ) (part : Part) → length t.leaves ≤ length (with_part t n part).leaves
-long_part t n (CutPart cut) = omega (arith, length-append (set t.leaves n None) (Some blank ∷ Some blank ∷ []), length-set t.leaves n None)
+long_part t n (CutPart cut) = omega (arith, length-append (set t.leaves n None) (Some blank_leaf ∷ Some blank_leaf ∷ []), length-set t.leaves n None)
 long_part t n (LeafPart part) = omega (arith, length-set t.leaves n (Some (leaf_of part.leaf)))
 
 pub long_cut : (t : WorkTreeValue) (n : ℕ) (cut : Cut) → length (with_part t n (CutPart cut)).leaves ≡ length t.leaves + 2
-long_cut t n cut = omega (arith, length-append (set t.leaves n None) (Some blank ∷ Some blank ∷ []), length-set t.leaves n None)
+long_cut t n cut = omega (arith, length-append (set t.leaves n None) (Some blank_leaf ∷ Some blank_leaf ∷ []), length-set t.leaves n None)
 
 pub counted_part : (t : WorkTreeValue) (n : ℕ) (part : Part) → IsCounted t → IsCounted (with_part t n part)
 counted_part t n (CutPart cut) c = omega (
@@ -58,12 +58,12 @@ counted_part t n (LeafPart part) c = omega (arith, c, length-set t.leaves n (Som
 
 part_others : (t : WorkTreeValue) (n : ℕ) (part : Part) (other : ℕ) → other < length t.leaves → other ≢ n
     → leaf_at (with_part t n part) other ≡ leaf_at t other
-part_others t n (CutPart cut) other l ne = split_others t n cut blank blank other l ne
+part_others t n (CutPart cut) other l ne = split_others t n cut blank_leaf blank_leaf other l ne
 part_others t n (LeafPart part) other l ne = put_others t n (leaf_of part.leaf) other ne
 
 part_paths : (t : WorkTreeValue) (n : ℕ) (part : Part) (other : ℕ) → IsCounted t → other < length t.leaves
     → path_to (with_part t n part) other ≡ path_to t other
-part_paths t n (CutPart cut) other c l = path_others t n cut blank blank other (omega (arith, l, c))
+part_paths t n (CutPart cut) other c l = path_others t n cut blank_leaf blank_leaf other (omega (arith, l, c))
 part_paths t n (LeafPart part) other c l = refl
 
 -- ---- the nodes without their part
@@ -81,7 +81,7 @@ sites_stay t n part (m ∷ nodes) o s = (
   sites_stay t n part nodes o.1 s.2,
 )
 
-some_blank : (o : Option Leaf) → o ≡ Some blank → IsSome o
+some_blank : (o : Option Leaf) → o ≡ Some blank_leaf → IsSome o
 some_blank None e = cc
 some_blank (Some x) e = refl
 
@@ -90,8 +90,8 @@ pub next_sites : (t : WorkTreeValue) (n : ℕ) (part : Part) (nodes : List ℕ) 
 next_sites t n (CutPart cut) nodes s =
     let k = length t.leaves in
     let u = with_part t n (CutPart cut) in
-    let first : IsSome (leaf_at u k) = some_blank (leaf_at u k) (split_low t n cut blank blank) in
-    let second : IsSome (leaf_at u (k + 1)) = some_blank (leaf_at u (k + 1)) (split_high t n cut blank blank) in (
+    let first : IsSome (leaf_at u k) = some_blank (leaf_at u k) (split_low t n cut blank_leaf blank_leaf) in
+    let second : IsSome (leaf_at u (k + 1)) = some_blank (leaf_at u (k + 1)) (split_high t n cut blank_leaf blank_leaf) in (
       first,
       (λ e. omega (arith, e), others_beyond t nodes k s.2 (omega arith)),
       (second, others_beyond t nodes (k + 1) s.2 (omega arith), sites_stay t n (CutPart cut) nodes s.1 s.2),
@@ -119,12 +119,12 @@ nodes_stay p t n part (m ∷ nodes) c s = (λ i. node_at p (part_paths t n part 
 low_path : (t : WorkTreeValue) (n : ℕ) (cut : Cut) → IsCounted t
     → path_to (with_part t n (CutPart cut)) (length t.leaves) ≡ path_to t n ++ (cut, Low) ∷ []
 low_path t n cut c = subst (λ (k : ℕ). path_to (with_part t n (CutPart cut)) k ≡ path_to t n ++ (cut, Low) ∷ []) c
-    (path_low t n cut blank blank)
+    (path_low t n cut blank_leaf blank_leaf)
 
 high_path : (t : WorkTreeValue) (n : ℕ) (cut : Cut) → IsCounted t
     → path_to (with_part t n (CutPart cut)) (length t.leaves + 1) ≡ path_to t n ++ (cut, High) ∷ []
 high_path t n cut c = subst (λ (k : ℕ). path_to (with_part t n (CutPart cut)) (k + 1)
-    ≡ path_to t n ++ (cut, High) ∷ []) c (path_high t n cut blank blank)
+    ≡ path_to t n ++ (cut, High) ∷ []) c (path_high t n cut blank_leaf blank_leaf)
 
 -- the first part is valued rightly, where it is a leaf
 abbrev FirstValued : ProblemValue → WorkTreeValue → ℕ → Part → Type 0
@@ -162,7 +162,7 @@ pub record AreChanged (p : ProblemValue) (t u : WorkTreeValue) (nodes : List ℕ
 
 part_changed : (p : ProblemValue) (t : WorkTreeValue) (n : ℕ) (part : Part) → IsCounted t → IsSome (leaf_at t n)
     → FirstValued p t n part → IsChanged p t (with_part t n part) n (waits n (part_value part))
-part_changed p t n (CutPart cut) c some v = branch_changed p t n cut blank blank None None c (site_within t n some) refl refl
+part_changed p t n (CutPart cut) c some v = branch_changed p t n cut blank_leaf blank_leaf None None c (site_within t n some) refl refl
 part_changed p t n (LeafPart part) c some v = leaf_changed p t n (leaf_of part.leaf) part.value some v
 
 -- the entry of a node that keeps its path and its leaf is worth it still
@@ -187,7 +187,7 @@ next_other k other (LeafPart part) nodes l o = o
 
 pub grown_changed : (p : ProblemValue) (t : WorkTreeValue) (nodes : List ℕ) (parts : List Part) → IsCounted t
     → AreSites t nodes → are_trees (length nodes) (part_lines parts) ≡ true
-    → AreValued p (nodes_at p t nodes) parts → AreChanged p t (grown t nodes parts) nodes (news t nodes parts)
+    → AreValued p (nodes_at p t nodes) parts → AreChanged p t (with_parts t nodes parts) nodes (news t nodes parts)
 grown_changed p t [] [] c s w v = record {
   leaves = λ other l o. refl;
   paths = λ other l. refl;
@@ -211,7 +211,7 @@ grown_changed p t (n ∷ nodes) (part ∷ parts) c s w v =
         | inl new ↦ later.each e new
         | inr own ↦
             let at = waits_item n (part_value part) e own in
-            worth_stays p u (grown u (next k part nodes) parts) (next k part nodes)
+            worth_stays p u (with_parts u (next k part nodes) parts) (next k part nodes)
             (news u (next k part nodes) parts) e later
             (subst (λ (m : ℕ). AreOthers m (next k part nodes)) (sym at)
             (next_other k n part nodes within s.1)) (now.each e own)
@@ -233,7 +233,7 @@ grown_changed p t (n ∷ nodes) (part ∷ parts) c s w v =
 pub one_changed : (p : ProblemValue) (t : WorkTreeValue) (n : ℕ) (parts : List Part) → IsCounted t
     → IsSome (leaf_at t n) → are_trees 1 (part_lines parts) ≡ true
     → AreValued p (node_at p (path_to t n) ∷ []) parts
-    → IsChanged p t (grown t (n ∷ []) parts) n (news t (n ∷ []) parts)
+    → IsChanged p t (with_parts t (n ∷ []) parts) n (news t (n ∷ []) parts)
 one_changed p t n parts c some w v =
     let all = grown_changed p t (n ∷ []) parts c (some, tt, tt) w v in
     record {
@@ -328,7 +328,7 @@ next_trees t n nodes (Branch cut low high) trees (CutPart own) parts c s l m =
       count = omega (arith, m);
       tree =
           (λ i. puts (put (put u.tree (low_path t n own c i) low) (high_path t n own c i) high) (others i) trees)
-          ∙ ap (λ (x : Tree). puts x (paths_at t nodes) trees) (put_branch t.tree path own (Ends blank) (Ends blank) low high)
+          ∙ ap (λ (x : Tree). puts x (paths_at t nodes) trees) (put_branch t.tree path own (Ends blank_leaf) (Ends blank_leaf) low high)
           ∙ ap (λ (x : Cut). puts (put t.tree path (Branch x low high)) (paths_at t nodes) trees) (sym same.0);
     }
 
@@ -338,7 +338,7 @@ no_lines (Branch cut low high) lines e = cc
 
 grown_tree : (t : WorkTreeValue) (nodes : List ℕ) (parts : List Part) (trees : List Tree) → IsCounted t
     → AreSites t nodes → all_lines trees ≡ part_lines parts → length trees ≡ length nodes
-    → (grown t nodes parts).tree ≡ puts t.tree (paths_at t nodes) trees
+    → (with_parts t nodes parts).tree ≡ puts t.tree (paths_at t nodes) trees
 grown_tree t [] [] trees c s l m = refl
 grown_tree t (n ∷ nodes) [] [] c s l m = cc
 grown_tree t (n ∷ nodes) [] (tree ∷ trees) c s l m = absurd (no_lines tree (all_lines trees) l)
@@ -352,5 +352,5 @@ grown_tree t (n ∷ nodes) (part ∷ parts) (tree ∷ trees) c s l m =
 
 pub one_tree_grown : (t : WorkTreeValue) (n : ℕ) (parts : List Part) (tree : Tree) → IsCounted t
     → IsSome (leaf_at t n) → preorder tree ≡ part_lines parts
-    → (grown t (n ∷ []) parts).tree ≡ put t.tree (path_to t n) tree
+    → (with_parts t (n ∷ []) parts).tree ≡ put t.tree (path_to t n) tree
 one_tree_grown t n parts tree c some l = grown_tree t (n ∷ []) parts (tree ∷ []) c (some, tt, tt) (append-nil (preorder tree) ∙ l) refl

@@ -9,23 +9,22 @@ use Rattle.pesp_problem.specs.declared.cut.Cut.TheVariants.{Slack, Offset}
 use Rattle.pesp_problem.specs.declared.cut.Side.{Side}
 use Rattle.pesp_problem.specs.declared.cut.Side.TheVariants.{Low, High}
 use Rattle.pesp_problem.specs.Nodes.{Node, leaf_value, part, low_part, high_part}
-use Rattle.pesp_truth.specs.Trees.{Tree, Line, Ends, Branch, EndLine, CutLine, preorder}
+use Rattle.pesp_truth.specs.Trees.{Tree, Line, Ends, Branch, EndLine, CutLine, preorder, line_of}
 use Rattle.pesp_truth.specs.declared.tree.TreeLine.{TreeLine}
-use Rattle.pesp_truth.specs.Certificates.{line_of}
 use Rattle.pesp_truth.proofs.Paths.{along-push}
 use Rattle.pesp_network.specs.Networks.{KeepsNetLimits}
-use Rattle.pesp_nodes.specs.Problems.{ProblemValue, net_of, IsNodeOf, IsSmallTable}
-use Rattle.pesp_machine.specs.declared.work.Work.TheVariants as works
-use Rattle.pesp_machine.specs.declared.refusal.GiveRefusal.{GiveRefusal}
-use Rattle.pesp_machine.specs.declared.refusal.GiveRefusal.TheVariants.{UnknownJob, AlreadyGiven, NotValid, Memory, TooLarge}
-use Rattle.pesp_machine.specs.States.{root_of}
-use Rattle.pesp_machine.specs.Events.{IsGraft}
+use Rattle.pesp_nodes.specs.Problems.{ProblemValue, problem_net, IsNodeOf, IsSmallTable}
+use Rattle.pesp_tree.specs.declared.work.Work.TheVariants as works
+use Rattle.pesp_tree.specs.declared.refusal.GiveRefusal.{GiveRefusal}
+use Rattle.pesp_tree.specs.declared.refusal.GiveRefusal.TheVariants.{UnknownJob, AlreadyGiven, NotValid, Memory, TooLarge}
+use Rattle.pesp_tree.specs.States.{root_of}
+use Rattle.pesp_tree.specs.Events.{IsGraft}
 use Rattle.pesp_board.specs.declared.part.Part.{Part}
 use Rattle.pesp_board.specs.declared.part.Part.TheVariants.{Cut as CutPart, Leaf as LeafPart}
 use Rattle.pesp_board.specs.declared.part.Made.{Made}
 use Rattle.pesp_board.specs.Parts.{part_line, part_lines, AreValued, MakesParts}
 use Rattle.pesp_board.specs.Giving.{MakesOf}
-use Rattle.pesp_board.specs.Grafting.{IsGraftLine, after, after_first, StandsFirst, AreGrafts, IsValuedPart, MakesPartOf, IsReached, AreReached, IsJudged}
+use Rattle.pesp_board.specs.Grafting.{IsGraftLine, after, after_first, StandsFirst, AreGrafts, IsValuedPart, MakesPartOf, IsReached, AreReached, AreJudgedParts}
 use Rattle.pesp_board.proofs.Paths.{cut_at}
 
 -- ---- nodes that paths lead to
@@ -206,7 +205,7 @@ module _ (lines : List TreeLine) (k : ℕ) (line : TreeLine) (within : k < lengt
 
       pub not_there : (refusal : GiveRefusal) (result : Result (Vec Part) GiveRefusal)
           → MakesPartOf p worth n (line_of line) (Err refusal) → IsErrAnd result (λ told. told ≡ refusal)
-          → IsJudged p worth start (map line_of lines) result
+          → AreJudgedParts p worth start (map line_of lines) result
       not_there UnknownJob result m e = absurd m
       not_there AlreadyGiven result m e = absurd m
       not_there TooLarge result m e = absurd m
@@ -240,8 +239,8 @@ module _ (p : ProblemValue) (worth : Option ℤ) (start : List Node) (lines : Li
 
 -- what was judged, where the worth is that of the leaf
 pub tree_made : (p : ProblemValue) (worth : Option ℤ) (node : Node) (old : List Pair) (lines : Vec TreeLine)
-    (parts : Vec Part) → worth ≡ leaf_value (net_of p) p.table node old true
-    → IsJudged p worth (node ∷ []) (map line_of lines.items) (Ok parts)
+    (parts : Vec Part) → worth ≡ leaf_value (problem_net p) p.table node old true
+    → AreJudgedParts p worth (node ∷ []) (map line_of lines.items) (Ok parts)
     → MakesParts p node old (works.Tree lines) parts.items
 tree_made p worth node old lines parts e j =
     let whole = graft_is p worth node (map line_of lines.items) j.0 in
@@ -254,8 +253,8 @@ tree_made p worth node old lines parts e j =
 
 pub tree_not_made : (p : ProblemValue) (worth : Option ℤ) (node : Node) (old : List Pair) (lines : Vec TreeLine)
     (refusal : GiveRefusal) (result : Result Made GiveRefusal)
-    → worth ≡ leaf_value (net_of p) p.table node old true
-    → IsJudged p worth (node ∷ []) (map line_of lines.items) (Err refusal)
+    → worth ≡ leaf_value (problem_net p) p.table node old true
+    → AreJudgedParts p worth (node ∷ []) (map line_of lines.items) (Err refusal)
     → IsErrAnd result (λ told. told ≡ refusal) → MakesOf p node old (works.Tree lines) result
 tree_not_made p worth node old lines UnknownJob result e j t = absurd j
 tree_not_made p worth node old lines AlreadyGiven result e j t = absurd j

@@ -4,14 +4,14 @@ use Rattle.std.specs.Prelude.{ℤ, pos, negsuc, ◌≤ℤ◌, Option, Some, None
 use Rattle.std.proofs.lemmas.Int.{ints}
 use Rattle.std.proofs.lemmas.List.Elements.{All-contains}
 use Rattle.pesp_truth.specs.Trees.{Bound}
-use Rattle.pesp_nodes.specs.Problems.{ProblemValue, net_of}
+use Rattle.pesp_nodes.specs.Problems.{ProblemValue, problem_net}
 use Rattle.pesp_tree.specs.WorkTrees.{WorkTreeValue, IsWhole, path_to}
-use Rattle.pesp_queue.specs.declared.entry.Entry.{Entry}
-use Rattle.pesp_queue.specs.Entries.{entry, IsLeastValue}
-use Rattle.pesp_queue.specs.Queues.{QueueValue, all_of}
-use Rattle.pesp_machine.specs.Leaves.{HasValue, least_value, told}
-use Rattle.pesp_machine.specs.States.{root_of, value_at, least}
-use Rattle.pesp_machine.proofs.Least.{least_is_had, least_is_under, least_is_none}
+use Rattle.pesp_tree.specs.declared.entry.Entry.{Entry}
+use Rattle.pesp_tree.specs.Entries.{entry, IsLeastValue}
+use Rattle.pesp_tree.specs.Queues.{QueueValue, all_of}
+use Rattle.pesp_tree.specs.BoardLeaves.{HasValue, least_value, told}
+use Rattle.pesp_tree.specs.States.{root_of, value_at, least}
+use Rattle.pesp_tree.proofs.Least.{least_is_had, least_is_under, least_is_none}
 use Rattle.pesp_board.specs.declared.slot.Slot.{Slot}
 use Rattle.pesp_board.specs.Insides.{state_of, IsQueue}
 use Rattle.pesp_board.proofs.Places.{one_leaf}
@@ -40,7 +40,7 @@ same_told (Some u) v l e f = cc
 
 -- a value that a bound leaf has is told in the queue
 pub in_queue : (p : ProblemValue) (t : WorkTreeValue) (slots : List Slot) (q : QueueValue) (v : ℤ) → IsWhole t
-    → IsQueue p t slots q → HasValue (net_of p) p.table t.tree (root_of p) v
+    → IsQueue p t slots q → HasValue (problem_net p) p.table t.tree (root_of p) v
     → (node : ℕ) × Contains (all_of q) (entry node (told v))
 in_queue p t slots q v w is h =
     let at = w.found h.path (Bound h.pairs) h.leaf in
@@ -54,7 +54,7 @@ in_queue p t slots q v w is h =
 least_none : (p : ProblemValue) (t : WorkTreeValue) (slots : List Slot) (times : Option (List ℕ)) (q : QueueValue)
     → IsWhole t → IsQueue p t slots q → all_of q ≡ [] → None ≡ least p (state_of t slots times)
 least_none p t slots times q w is e =
-    sym (ap (option_map told) (least_is_none (net_of p) p.table t.tree (root_of p)
+    sym (ap (option_map told) (least_is_none (problem_net p) p.table t.tree (root_of p)
     (λ v h. let held = in_queue p t slots q v w is h in
     no_entry (entry held.0 (told v)) (subst (λ l. Contains l (entry held.0 (told v))) e held.1))))
   where
@@ -67,16 +67,16 @@ least_some : (p : ProblemValue) (t : WorkTreeValue) (slots : List Slot) (times :
 least_some p t slots times q l w is first =
     let worth = is.each (entry first.0 l) first.1.0 in
     let value = some_told (value_at p (path_to t first.0) worth.pairs) l worth.worth in
-    let had : HasValue (net_of p) p.table t.tree (root_of p) value.0 =
+    let had : HasValue (problem_net p) p.table t.tree (root_of p) value.0 =
     record {
       path = path_to t first.0;
       pairs = worth.pairs;
       leaf = w.stands first.0 (Bound worth.pairs) worth.leaf;
       worth = value.1;
     } in
-    let under = and_is (least_value (net_of p) p.table t.tree (root_of p)) (λ u. u ≤ℤ value.0)
-    (least_is_under (net_of p) p.table t.tree (root_of p) value.0 had) in
-    let held = in_queue p t slots q under.0 w is (least_is_had (net_of p) p.table t.tree (root_of p) under.0 under.1) in
+    let under = and_is (least_value (problem_net p) p.table t.tree (root_of p)) (λ u. u ≤ℤ value.0)
+    (least_is_under (problem_net p) p.table t.tree (root_of p) value.0 had) in
+    let held = in_queue p t slots q under.0 w is (least_is_had (problem_net p) p.table t.tree (root_of p) under.0 under.1) in
     let above : l ≤ told under.0 = All-contains (λ (e : Entry). l ≤ e.value) (all_of q) (entry held.0 (told under.0)) first.1.1 held.1 in
     let below : told under.0 ≤ told value.0 = told_rises under.0 value.0 under.2 in
     let is_it : told value.0 ≡ l = value.2 in

@@ -9,22 +9,22 @@ use Rattle.pesp_problem.specs.declared.cut.Side.{Side}
 use Rattle.pesp_problem.specs.NetTimetables.{net_cost}
 use Rattle.pesp_truth.specs.Trees.{Leaf, Bound}
 use Rattle.pesp_network.specs.Networks.{KeepsNetLimits}
-use Rattle.pesp_nodes.specs.Problems.{ProblemValue, net_of}
+use Rattle.pesp_nodes.specs.Problems.{ProblemValue, problem_net}
 use Rattle.pesp_tree.specs.WorkTrees.{WorkTreeValue, IsWhole, path_to, leaf_at}
-use Rattle.pesp_queue.specs.declared.entry.Entry.{Entry}
-use Rattle.pesp_queue.specs.Entries.{entry, HasItem, ItemsDiffer, IsFirst}
-use Rattle.pesp_queue.specs.Queues.{QueueValue, all_of}
+use Rattle.pesp_tree.specs.declared.entry.Entry.{Entry}
+use Rattle.pesp_tree.specs.Entries.{entry, HasItem, ItemsDiffer, IsFirst}
+use Rattle.pesp_tree.specs.Queues.{QueueValue, all_of}
 use Rattle.pesp_truth.specs.Leaves.{IsLeafAt}
-use Rattle.pesp_machine.specs.Leaves.{told}
-use Rattle.pesp_machine.specs.States.{Ticket, Lent, Given, Recalled, IsBelow, IsOpen, root_of, node_at, value_at, best_cost}
-use Rattle.pesp_machine.specs.Events.{IsCheaper}
-use Rattle.pesp_machine.proofs.Trees.{sound_leaf, value_of}
-use Rattle.pesp_machine.proofs.Costs.{told_alike, costs_are_small}
+use Rattle.pesp_tree.specs.BoardLeaves.{told}
+use Rattle.pesp_tree.specs.States.{Ticket, Lent, Given, Recalled, IsBelow, IsOpen, root_of, node_at, value_at, best_cost}
+use Rattle.pesp_tree.specs.Events.{IsCheaper}
+use Rattle.pesp_tree.proofs.Trees.{sound_leaf, value_of}
+use Rattle.pesp_tree.proofs.Costs.{told_alike, costs_are_small}
 use Rattle.pesp_board.specs.declared.best.Best.{Best}
 use Rattle.pesp_board.specs.declared.slot.Slot.{Slot}
 use Rattle.pesp_board.specs.declared.slot.Slot.TheVariants.{Lent as LentSlot}
-use Rattle.pesp_board.specs.Insides.{ticket_of, times_of, cost_of, state_of, slot_at, IsQueue, IsBoard}
-use Rattle.pesp_board.specs.Lending.{IsFirstOpen}
+use Rattle.pesp_board.specs.Insides.{ticket_of, times_of, best_cost_of, state_of, slot_at, IsQueue, IsBoard}
+use Rattle.pesp_board.specs.Lending.{IsLeastOpen}
 use Rattle.pesp_board.specs.LendingAll.{WaitsCheaper}
 use Rattle.pesp_board.proofs.Places.{one_leaf}
 use Rattle.pesp_board.proofs.Slots.{ticket_is, lent_by}
@@ -88,8 +88,8 @@ leaf_value_is : (p : ProblemValue) (t : WorkTreeValue) (slots : List Slot) (q : 
     (count : ℕ) (path : List (Cut × Side)) (pairs : List Pair) → IsBoard p t slots q best count
     → IsLeafAt t.tree path (Bound pairs) → (v : ℤ) × (value_at p path pairs ≡ Some v) × (pos 0 ≤ℤ v)
 leaf_value_is p t slots q best count path pairs b h =
-    value_of (net_of p) p.table (node_at p path) pairs
-    (sound_leaf (net_of p) p.table (Some 0) t.tree path (Bound pairs) (root_of p) h b.orderly.kept.tree)
+    value_of (problem_net p) p.table (node_at p path) pairs
+    (sound_leaf (problem_net p) p.table (Some 0) t.tree path (Bound pairs) (root_of p) h b.orderly.kept.tree)
 
 same_told : (o : Option ℤ) (v : ℤ) (l : ℕ) → o ≡ Some v → option_map told o ≡ Some l → told v ≡ l
 same_told None v l e f = cc
@@ -116,9 +116,9 @@ below_of o v (Some c) e n small h = rw e (by_lt_z v (pos c) (λ l. l)
     (λ g. absurd (let over = (told_alike v c n (small c refl)).0 g in omega (arith, over, h))))
 
 cost_is_small : (p : ProblemValue) (best : Option (List ℕ)) (c : ℕ) → KeepsNetLimits p.network
-    → option_map (net_cost (net_of p)) best ≡ Some c → c ≤ 999999999999999999
+    → option_map (net_cost (problem_net p)) best ≡ Some c → c ≤ 999999999999999999
 cost_is_small p None c limits e = cc
-cost_is_small p (Some times) c limits e = let same : net_cost (net_of p) times ≡ c = cc in
+cost_is_small p (Some times) c limits e = let same : net_cost (problem_net p) times ≡ c = cc in
     let small = costs_are_small p.network times limits in omega (arith, same, small)
 
 -- ---- the first that waits
@@ -136,7 +136,7 @@ first_under p t slots times q e path w is first o v at =
 -- where it isn't cheaper no leaf is open
 pub none_cheaper : (p : ProblemValue) (t : WorkTreeValue) (slots : List Slot) (q : QueueValue) (best : Option Best)
     (count : ℕ) (e : Entry) → IsBoard p t slots q best count → IsFirst q.waiting e
-    → (IsCheaper e.value (cost_of best) → ⊥) → (path : List (Cut × Side))
+    → (IsCheaper e.value (best_cost_of best) → ⊥) → (path : List (Cut × Side))
     → IsOpen p (state_of t slots (times_of best)) path → ⊥
 none_cheaper p t slots q best count e b first dear path o =
     let value = leaf_value_is p t slots q best count path o.pairs b o.leaf in
@@ -169,7 +169,7 @@ unlent_path p t slots q node number other w is differ waits e same =
 -- where a value that waits is cheaper its leaf is open
 pub waiting_opens : (p : ProblemValue) (t : WorkTreeValue) (slots : List Slot) (q : QueueValue)
     (best : Option Best) (count : ℕ) (e : Entry) → IsBoard p t slots q best count → ItemsDiffer (all_of q)
-    → Contains q.waiting e → IsCheaper e.value (cost_of best)
+    → Contains q.waiting e → IsCheaper e.value (best_cost_of best)
     → IsOpen p (state_of t slots (times_of best)) (path_to t e.item)
 waiting_opens p t slots q best count e b differ waits cheap =
     let state = state_of t slots (times_of best) in
@@ -194,7 +194,7 @@ waiting_opens p t slots q best count e b differ waits cheap =
 -- and the leaf of the first has the least value of them
 pub first_opens : (p : ProblemValue) (t : WorkTreeValue) (slots : List Slot) (q : QueueValue) (best : Option Best)
     (count : ℕ) (e : Entry) → IsBoard p t slots q best count → ItemsDiffer (all_of q) → IsFirst q.waiting e
-    → IsCheaper e.value (cost_of best) → IsFirstOpen p (state_of t slots (times_of best)) (path_to t e.item)
+    → IsCheaper e.value (best_cost_of best) → IsLeastOpen p (state_of t slots (times_of best)) (path_to t e.item)
 unfolding waiting_opens
 first_opens p t slots q best count e b differ first cheap =
     let opens = waiting_opens p t slots q best count e b differ first.0 cheap in

@@ -9,20 +9,20 @@ use Rattle.pesp_truth.specs.Trees.{Leaf, Bound}
 use Rattle.pesp_board.proofs.Queues.{held_first}
 use Rattle.pesp_nodes.specs.Problems.{ProblemValue}
 use Rattle.pesp_tree.specs.WorkTrees.{WorkTreeValue, path_to}
-use Rattle.pesp_queue.specs.declared.entry.Entry.{Entry}
-use Rattle.pesp_queue.specs.Entries.{entry, HasItem, ItemsDiffer, IsFirst}
-use Rattle.pesp_queue.specs.Queues.{QueueValue, all_of}
-use Rattle.pesp_machine.specs.declared.job.Job.{Job}
-use Rattle.pesp_machine.specs.declared.refusal.LendRefusal.{LendRefusal}
-use Rattle.pesp_machine.specs.declared.refusal.LendRefusal.TheVariants.{Memory, NumbersSpent}
-use Rattle.pesp_machine.specs.States.{Lent, IsOpen}
-use Rattle.pesp_machine.specs.Events.{Lends, LendsLeaf, Lend}
-use Rattle.pesp_machine.proofs.Runs.{step_is_orderly}
+use Rattle.pesp_tree.specs.declared.entry.Entry.{Entry}
+use Rattle.pesp_tree.specs.Entries.{entry, HasItem, ItemsDiffer, IsFirst}
+use Rattle.pesp_tree.specs.Queues.{QueueValue, all_of}
+use Rattle.pesp_tree.specs.declared.job.Job.{Job}
+use Rattle.pesp_tree.specs.declared.refusal.LendRefusal.{LendRefusal}
+use Rattle.pesp_tree.specs.declared.refusal.LendRefusal.TheVariants.{Memory, NumbersSpent}
+use Rattle.pesp_tree.specs.States.{Lent, IsOpen}
+use Rattle.pesp_tree.specs.Events.{Lends, LendsLeaf, Lend}
+use Rattle.pesp_tree.proofs.Runs.{step_is_orderly}
 use Rattle.pesp_board.specs.declared.best.Best.{Best}
 use Rattle.pesp_board.specs.declared.slot.Slot.{Slot}
 use Rattle.pesp_board.specs.declared.slot.Slot.TheVariants.{Lent as LentSlot}
 use Rattle.pesp_board.specs.Insides.{ticket_of, times_of, state_of, IsBoard}
-use Rattle.pesp_board.specs.Lending.{IsFirstOpen, LendsNext, LendsEntry, LendsFirst, LendsCuts, HasJob}
+use Rattle.pesp_board.specs.Lending.{IsLeastOpen, LendsNext, LendsEntry, LendsFirst, LendsCuts, HasJob}
 use Rattle.pesp_board.specs.Giving.{AreCuts}
 use Rattle.pesp_board.proofs.Paths.{path_cuts}
 use Rattle.pesp_board.proofs.Lending.{none_waits, none_cheaper, first_opens}
@@ -78,7 +78,7 @@ pub lends_first : (p : ProblemValue) (t : WorkTreeValue) (slots new : List Slot)
     → LendsEntry t best slots e result new → LendsFirst p (state_of t slots (times_of best)) result
 lends_first p t slots new q best count e (Ok None) b differ first l = tt
 lends_first p t slots new q best count e (Ok (Some job)) b differ first l =
-    subst (IsFirstOpen p (state_of t slots (times_of best))) (sym l.path)
+    subst (IsLeastOpen p (state_of t slots (times_of best))) (sym l.path)
     (first_opens p t slots q best count e b differ first l.cheaper)
 lends_first p t slots new q best count e (Err refusal) b differ first l = tt
 

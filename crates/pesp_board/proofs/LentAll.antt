@@ -13,21 +13,21 @@ use Rattle.pesp_truth.specs.Trees.{Bound}
 use Rattle.pesp_truth.specs.Leaves.{leaf_paths}
 use Rattle.pesp_nodes.specs.Problems.{ProblemValue}
 use Rattle.pesp_tree.specs.WorkTrees.{WorkTreeValue, IsWhole, path_to, leaf_at}
-use Rattle.pesp_queue.specs.declared.entry.Entry.{Entry}
-use Rattle.pesp_queue.specs.Entries.{entry, entry_at, item_at, ItemsDiffer, IsFirst}
-use Rattle.pesp_queue.specs.Queues.{QueueValue, all_of, front, KeepsLimits}
-use Rattle.pesp_machine.specs.declared.job.Job.{Job}
-use Rattle.pesp_machine.specs.declared.refusal.LendRefusal.{LendRefusal}
-use Rattle.pesp_machine.specs.declared.refusal.LendRefusal.TheVariants.{Memory, NumbersSpent}
-use Rattle.pesp_machine.specs.States.{State, Lent}
-use Rattle.pesp_machine.specs.Events.{IsCheaper}
-use Rattle.pesp_machine.specs.Adopting.{AreOpenOf, AreNumbered, LendsEach, LendsAll, lends_of}
-use Rattle.pesp_machine.proofs.Adopting.{Has, has_leaf, lends_each_run}
-use Rattle.pesp_machine.proofs.Runs.{run_is_orderly}
+use Rattle.pesp_tree.specs.declared.entry.Entry.{Entry}
+use Rattle.pesp_tree.specs.Entries.{entry, entry_at, item_at, ItemsDiffer, IsFirst}
+use Rattle.pesp_tree.specs.Queues.{QueueValue, all_of, front, QueueKeepsLimits}
+use Rattle.pesp_tree.specs.declared.job.Job.{Job}
+use Rattle.pesp_tree.specs.declared.refusal.LendRefusal.{LendRefusal}
+use Rattle.pesp_tree.specs.declared.refusal.LendRefusal.TheVariants.{Memory, NumbersSpent}
+use Rattle.pesp_tree.specs.States.{State, Lent}
+use Rattle.pesp_tree.specs.Events.{IsCheaper}
+use Rattle.pesp_tree.specs.Adopting.{AreOpenOf, AreNumbered, LendsEach, LendsAll, lends_of}
+use Rattle.pesp_tree.proofs.Adopting.{Has, has_leaf, lends_each_run}
+use Rattle.pesp_tree.proofs.Runs.{run_is_orderly}
 use Rattle.pesp_board.specs.declared.best.Best.{Best}
 use Rattle.pesp_board.specs.declared.slot.Slot.{Slot}
 use Rattle.pesp_board.specs.declared.slot.Slot.TheVariants.{Lent as LentSlot}
-use Rattle.pesp_board.specs.Insides.{ticket_of, times_of, cost_of, state_of, slot_at, IsLentNode, IsQueue, IsBoard}
+use Rattle.pesp_board.specs.Insides.{ticket_of, times_of, best_cost_of, state_of, slot_at, IsLentNode, IsQueue, IsBoard}
 use Rattle.pesp_board.specs.LendingAll.{WaitsCheaper, AreWaitingOf, AreOpenNodes, LendsNodes, ParksOpen}
 use Rattle.pesp_board.proofs.Queues.{held_cases, held_more, held_first, apart}
 use Rattle.pesp_board.proofs.Slots.{node_of_slot}
@@ -59,12 +59,12 @@ same_value q n v w differ h k =
       ]
     ]
 
-pub waits_as : (q : QueueValue) (best : Option Best) (node value : ℕ) (b : Bool) → KeepsLimits q
-    → Contains q.waiting (entry node value) → IsTrue b ↔ IsCheaper value (cost_of best)
+pub waits_as : (q : QueueValue) (best : Option Best) (node value : ℕ) (b : Bool) → QueueKeepsLimits q
+    → Contains q.waiting (entry node value) → IsTrue b ↔ IsCheaper value (best_cost_of best)
     → IsTrue b ↔ WaitsCheaper q best node
 waits_as q best node value b limits h c = (
   λ t. (value, h, c.0 t),
-  λ w. c.1 (subst (λ (v : ℕ). IsCheaper v (cost_of best)) (same_value q node w.0 value limits.differ w.1 h) w.2),
+  λ w. c.1 (subst (λ (v : ℕ). IsCheaper v (best_cost_of best)) (same_value q node w.0 value limits.differ w.1 h) w.2),
 )
 
 -- ---- those that wait, one after the other
@@ -171,7 +171,7 @@ map_append f (x ∷ xs) ys = ap (λ l. f x ∷ l) (map_append f xs ys)
 pub record Parking (q r : QueueValue) (best : Option Best) : Type 0 where
   pub same : IsPermutation (all_of r) (all_of q)
   pub kept : (e : Entry) → Contains q.parked e → Contains r.parked e
-  pub only : (e : Entry) → Contains r.parked e → Contains q.parked e ⊎ (Contains q.waiting e × IsCheaper e.value (cost_of best))
+  pub only : (e : Entry) → Contains r.parked e → Contains q.parked e ⊎ (Contains q.waiting e × IsCheaper e.value (best_cost_of best))
 
 pub parking_none : (q : QueueValue) (best : Option Best) → Parking q q best
 parking_none q best = record { same = IsPermutation-refl (all_of q); kept = λ e h. h; only = λ e h. inl h }
@@ -185,8 +185,8 @@ waited q r best e k differ h = elim (Contains-append_cases q.waiting q.parked e
       | inr lies ↦ absurd (apart r e.item differ (e.value, h) (e.value, k.kept e lies))
     ]
 
-pub parking_more : (q r s : QueueValue) (best : Option Best) (e : Entry) → Parking q r best → KeepsLimits r
-    → IsCheaper e.value (cost_of best) → Parks r s e → Parking q s best
+pub parking_more : (q r s : QueueValue) (best : Option Best) (e : Entry) → Parking q r best → QueueKeepsLimits r
+    → IsCheaper e.value (best_cost_of best) → Parks r s e → Parking q s best
 parking_more q r s best e k limits cheap parks =
     let here = waited q r best e k limits.differ
     (Contains-permutation _ _ e (IsPermutation-sym _ _ parks.waiting) (held_first e s.waiting)) in
@@ -194,7 +194,7 @@ parking_more q r s best e k limits cheap parks =
       same = IsPermutation-trans _ _ _ (parks_same r s e parks) k.same;
       kept = λ x h. Contains-permutation _ _ x parks.parked (held_more e r.parked x (k.kept x h));
       only = λ x h. elim (held_cases e r.parked x (Contains-permutation _ _ x (IsPermutation-sym _ _ parks.parked) h)) [
-        | inl this ↦ inr (subst (λ (y : Entry). Contains q.waiting y × IsCheaper y.value (cost_of best)) this (here, cheap))
+        | inl this ↦ inr (subst (λ (y : Entry). Contains q.waiting y × IsCheaper y.value (best_cost_of best)) this (here, cheap))
         | inr old ↦ k.only x old
       ];
     }
@@ -213,7 +213,7 @@ pub fewer_wait : (r s : QueueValue) (e : Entry) → Parks r s e → length s.wai
 fewer_wait r s e parks = let moved = length_permutation _ _ parks.waiting in omega (arith, moved)
 
 all_parked : (q r : QueueValue) (best : Option Best) → Parking q r best
-    → ((x : Entry) → Contains r.waiting x → IsCheaper x.value (cost_of best) → ⊥) → ParksOpen q r best
+    → ((x : Entry) → Contains r.waiting x → IsCheaper x.value (best_cost_of best) → ⊥) → ParksOpen q r best
 all_parked q r best k none = record {
   same = k.same;
   kept = k.kept;
@@ -236,9 +236,9 @@ cheaper_below a b None h k = tt
 cheaper_below a b (Some c) h k = omega (arith, h, k)
 
 pub parked_till_dear : (q r : QueueValue) (best : Option Best) (e : Entry) → Parking q r best → IsFirst r.waiting e
-    → (IsCheaper e.value (cost_of best) → ⊥) → ParksOpen q r best
+    → (IsCheaper e.value (best_cost_of best) → ⊥) → ParksOpen q r best
 parked_till_dear q r best e k first dear =
-    all_parked q r best k (λ x h cheap. dear (cheaper_below e.value x.value (cost_of best)
+    all_parked q r best k (λ x h cheap. dear (cheaper_below e.value x.value (best_cost_of best)
     (All-contains (λ (y : Entry). e.value ≤ y.value) r.waiting x first.1 h) cheap))
 
 -- ---- nodes among others

@@ -11,15 +11,15 @@ use Rattle.pesp_problem.specs.declared.cut.Side.{Side}
 use Rattle.pesp_truth.specs.Trees.{Bound}
 use Rattle.pesp_nodes.specs.Problems.{ProblemValue}
 use Rattle.pesp_tree.specs.WorkTrees.{WorkTreeValue, path_to, leaf_at}
-use Rattle.pesp_queue.specs.declared.entry.Entry.{Entry}
-use Rattle.pesp_queue.specs.Entries.{entry, entry_at, item_at, ItemsDiffer}
-use Rattle.pesp_queue.specs.Queues.{QueueValue, all_of}
-use Rattle.pesp_machine.specs.Leaves.{told}
-use Rattle.pesp_machine.specs.States.{IsOpen}
-use Rattle.pesp_machine.specs.Events.{IsCheaper}
+use Rattle.pesp_tree.specs.declared.entry.Entry.{Entry}
+use Rattle.pesp_tree.specs.Entries.{entry, entry_at, item_at, ItemsDiffer}
+use Rattle.pesp_tree.specs.Queues.{QueueValue, all_of}
+use Rattle.pesp_tree.specs.BoardLeaves.{told}
+use Rattle.pesp_tree.specs.States.{IsOpen}
+use Rattle.pesp_tree.specs.Events.{IsCheaper}
 use Rattle.pesp_board.specs.declared.best.Best.{Best}
 use Rattle.pesp_board.specs.declared.slot.Slot.{Slot}
-use Rattle.pesp_board.specs.Insides.{times_of, cost_of, state_of, IsBoard}
+use Rattle.pesp_board.specs.Insides.{times_of, best_cost_of, state_of, IsBoard}
 use Rattle.pesp_board.specs.OpenLeaves.{AreOpen}
 use Rattle.pesp_board.proofs.Queues.{held_cases, held_more, held_first}
 use Rattle.pesp_board.proofs.Lending.{some_leaf, waiting_opens, open_is}
@@ -54,7 +54,7 @@ mapped f (y ∷ xs) x h = elim (held_cases y xs x h) [
 
 module _ (p : ProblemValue) (t : WorkTreeValue) (slots : List Slot) (q : QueueValue) (best : Option Best)
     (count most : ℕ) (b : IsBoard p t slots q best count) (differ : ItemsDiffer (all_of q))
-    (below : (value : ℕ) → value ≤ 999999999999999999 → (value < most) ↔ IsCheaper value (cost_of best)) where
+    (below : (value : ℕ) → value ≤ 999999999999999999 → (value < most) ↔ IsCheaper value (best_cost_of best)) where
   abbrev cheap : Entry → Bool
   cheap e = nat_lt e.value most
 

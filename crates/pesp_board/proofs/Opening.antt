@@ -13,14 +13,14 @@ use Rattle.pesp_problem.specs.Nodes.{root, leaf_value, slack_part, slack_range, 
 use Rattle.pesp_problem.proofs.Integers.{sum_below-zero, zero-mul, mul_comm, mul-le}
 use Rattle.pesp_truth.specs.Trees.{Bound}
 use Rattle.pesp_network.specs.Networks.{KeepsNetLimits}
-use Rattle.pesp_nodes.specs.Problems.{ProblemValue, IsSmallTable, net_of}
+use Rattle.pesp_nodes.specs.Problems.{ProblemValue, IsSmallTable, problem_net}
 use Rattle.pesp_tree.specs.WorkTrees.{WorkTreeValue, IsWhole, leaf_at}
 use Rattle.pesp_tree.specs.WorkTrees as trees
-use Rattle.pesp_queue.specs.declared.entry.Entry.{Entry}
-use Rattle.pesp_queue.specs.Entries.{entry, HasItem}
-use Rattle.pesp_queue.specs.Queues.{QueueValue, all_of}
-use Rattle.pesp_machine.specs.Leaves.{told}
-use Rattle.pesp_machine.proofs.Runs.{opening_is_orderly}
+use Rattle.pesp_tree.specs.declared.entry.Entry.{Entry}
+use Rattle.pesp_tree.specs.Entries.{entry, HasItem}
+use Rattle.pesp_tree.specs.Queues.{QueueValue, all_of}
+use Rattle.pesp_tree.specs.BoardLeaves.{told}
+use Rattle.pesp_tree.proofs.Runs.{opening_is_orderly}
 use Rattle.pesp_board.specs.declared.slot.Slot.{Slot}
 use Rattle.pesp_board.specs.Insides.{IsWorth, IsQueue, IsBoard, IsLentNode}
 use Rattle.pesp_board.proofs.Queues.{none_held, one_held}
@@ -59,21 +59,21 @@ no_pairs_value n table =
 pub nothing_lent : (node : ℕ) → IsLentNode [] node → ⊥
 nothing_lent node l = cc (l.1)
 
-first_leaf : (node : ℕ) (pairs : List Pair) → leaf_at trees.opening node ≡ Some (Bound pairs) → node ≡ 0
+first_leaf : (node : ℕ) (pairs : List Pair) → leaf_at trees.opening_tree node ≡ Some (Bound pairs) → node ≡ 0
 first_leaf zero pairs e = refl
 first_leaf (suc node) pairs e = cc
 
 opening_queue : (p : ProblemValue) (q : QueueValue) → IsPermutation (entry 0 0 ∷ []) q.waiting
-    → IsPermutation [] q.parked → IsQueue p trees.opening [] q
+    → IsPermutation [] q.parked → IsQueue p trees.opening_tree [] q
 opening_queue p q w k =
     let none : (e : Entry) → Contains q.parked e
     → ⊥ = λ e h. none_held e (Contains-permutation q.parked [] e (IsPermutation-sym _ _ k) h) in
-    let worth : IsWorth p trees.opening (entry 0 0) =
-    record { pairs = []; leaf = refl; worth = ap (option_map told) (no_pairs_value (net_of p) p.table) } in
+    let worth : IsWorth p trees.opening_tree (entry 0 0) =
+    record { pairs = []; leaf = refl; worth = ap (option_map told) (no_pairs_value (problem_net p) p.table) } in
     let here : Contains q.waiting (entry 0 0) = Contains-permutation (entry 0 0 ∷ []) q.waiting (entry 0 0) w (0, omega arith, refl) in
     record {
       each = λ e h. elim (Contains-append_cases q.waiting q.parked e h) [
-        | inl waits ↦ subst (IsWorth p trees.opening)
+        | inl waits ↦ subst (IsWorth p trees.opening_tree)
             (one_held e (entry 0 0) (Contains-permutation q.waiting (entry 0 0 ∷ []) e
             (IsPermutation-sym _ _ w) waits)) worth
         | inr lies ↦ absurd (none e lies)
@@ -85,7 +85,7 @@ opening_queue p q w k =
     }
 
 pub opening_board : (p : ProblemValue) (t : WorkTreeValue) (slots : List Slot) (q r : QueueValue)
-    → KeepsNetLimits p.network → IsSmallTable p.table → t ≡ trees.opening → IsWhole t → slots ≡ [] → r.waiting ≡ []
+    → KeepsNetLimits p.network → IsSmallTable p.table → t ≡ trees.opening_tree → IsWhole t → slots ≡ [] → r.waiting ≡ []
     → r.parked ≡ [] → IsPermutation (entry 0 0 ∷ r.waiting) q.waiting → IsPermutation r.parked q.parked
     → IsBoard p t slots q None 0
 opening_board p t slots q r network table e whole none w k more same = record {

@@ -10,12 +10,12 @@ use Rattle.pesp_problem.specs.declared.cut.Side.{Side}
 use Rattle.pesp_problem.specs.Nodes.{Node, odijk_range, root_slacks, LeavesBoth}
 use Rattle.pesp_truth.specs.Trees.{Leaf, Bound, CutExists}
 use Rattle.pesp_network.specs.Networks.{KeepsNetLimits, arc_of_net}
-use Rattle.pesp_nodes.specs.Problems.{ProblemValue, net_of, IsSmallTable, IsNodeOf, IsCutOf, ArePairs}
+use Rattle.pesp_nodes.specs.Problems.{ProblemValue, problem_net, IsSmallTable, IsNodeOf, IsCutOf, ArePairs}
 use Rattle.pesp_tree.specs.WorkTrees.{WorkTreeValue, IsWhole, path_to, leaf_at}
-use Rattle.pesp_machine.specs.Limits.{IsLineOf, KeepsTreeLimits}
-use Rattle.pesp_machine.specs.States.{root_of, node_at}
-use Rattle.pesp_machine.proofs.Ranges.{cut_keeps_limits}
-use Rattle.pesp_machine.proofs.TreeLimits.{leaf_line, cuts_along}
+use Rattle.pesp_tree.specs.Limits.{IsLineOf, KeepsTreeLimits}
+use Rattle.pesp_tree.specs.States.{root_of, node_at}
+use Rattle.pesp_tree.proofs.Ranges.{cut_keeps_limits}
+use Rattle.pesp_tree.proofs.TreeLimits.{leaf_line, cuts_along}
 use Rattle.pesp_board.specs.Giving.{AreCuts}
 
 pub path_cuts : (p : ProblemValue) (t : WorkTreeValue) (node : ℕ) (leaf : Leaf) → IsWhole t
@@ -32,8 +32,8 @@ pub root_is_node : (p : ProblemValue) → IsNodeOf p (root_of p)
 root_is_node p =
     let full : Arc → ℕ × ℕ = λ arc. (0, arc.span) in
     record {
-      slacks = length-map (net_of p).arcs full ∙ length-map p.network.rows arc_of_net;
-      offsets = length-map p.table (odijk_range (net_of p) (root_slacks (net_of p)));
+      slacks = length-map (problem_net p).arcs full ∙ length-map p.network.rows arc_of_net;
+      offsets = length-map p.table (odijk_range (problem_net p) (root_slacks (problem_net p)));
     }
 
 -- what a cut of one node names exists for the others
@@ -46,7 +46,7 @@ cut_of_node p node (Offset cycle k) h c = let root = root_is_node p in let here 
 -- a cut of what exists that leaves both sides a value at the end of a path cuts every node
 pub cut_at : (p : ProblemValue) (path : List (Cut × Side)) (there node : Node) (cut : Cut)
     → KeepsNetLimits p.network → IsSmallTable p.table → there ≡ node_at p path
-    → CutExists (net_of p) p.table cut × LeavesBoth there cut → IsNodeOf p node → IsCutOf node cut
+    → CutExists (problem_net p) p.table cut × LeavesBoth there cut → IsNodeOf p node → IsCutOf node cut
 cut_at p path there node cut limits small e both h =
     cut_of_node p node cut h (cut_keeps_limits p path cut limits small both.0
     (subst (λ (n : Node). LeavesBoth n cut) e both.1))

@@ -7,13 +7,13 @@ use Rattle.std.proofs.lemmas.List.Sorted.{IsPermutation-refl, IsPermutation-tran
 use Rattle.pesp_truth.specs.Trees.{Line, EndLine, CutLine, are_trees}
 use Rattle.pesp_tree.specs.Leaves.{leaf_of}
 use Rattle.pesp_tree.specs.WorkTrees.{WorkTreeValue, IsWhole, leaf_at, with_room}
-use Rattle.pesp_queue.specs.declared.entry.Entry.{Entry}
-use Rattle.pesp_queue.specs.Entries.{entry, HasItem}
-use Rattle.pesp_queue.specs.Queues.{QueueValue, all_of, KeepsRoom, KeepsLimits}
+use Rattle.pesp_tree.specs.declared.entry.Entry.{Entry}
+use Rattle.pesp_tree.specs.Entries.{entry, HasItem}
+use Rattle.pesp_tree.specs.Queues.{QueueValue, all_of, KeepsRoom, QueueKeepsLimits}
 use Rattle.pesp_board.specs.declared.part.Part.{Part}
 use Rattle.pesp_board.specs.declared.part.Part.TheVariants.{Cut as CutPart, Leaf as LeafPart}
 use Rattle.pesp_board.specs.Parts.{part_lines}
-use Rattle.pesp_board.specs.Growing.{waits, part_value, with_part, next, grown, news, Grows, AreOthers, AreUnqueued, AreReady, IsPlanted}
+use Rattle.pesp_board.specs.Growing.{waits, part_value, with_part, next, with_parts, news, HasRoomForPart, AreOthers, AreUnqueued, AreReady, IsPlanted}
 use Rattle.pesp_board.proofs.Growing.{site_within, long_part, long_cut, next_sites, next_shape}
 use Rattle.pesp_board.proofs.Replacing.{IsWithout, IsWith, one_less, one_more, node_gone, still_fresh, with_held}
 
@@ -50,7 +50,7 @@ room_stays t n (CutPart cut) = refl
 room_stays t n (LeafPart part) = refl
 
 pub may_grow : (t : WorkTreeValue) (q : QueueValue) (n : ℕ) (nodes : List ℕ) (part : Part) (parts : List Part)
-    → AreReady t q (n ∷ nodes) (part ∷ parts) → Grows t part
+    → AreReady t q (n ∷ nodes) (part ∷ parts) → HasRoomForPart t part
 may_grow t q n nodes (LeafPart part) parts r = tt
 may_grow t q n nodes (CutPart cut) parts r =
     let enough = enough_parts (suc (suc (length nodes))) parts r.shape in
@@ -124,7 +124,7 @@ ready_more t u q r n nodes part parts h e whole k keeps =
 pub record ArePlanted (t : WorkTreeValue) (q : QueueValue) (nodes : List ℕ) (parts : List Part) (u : WorkTreeValue)
     (r : QueueValue) (nodes_left : List ℕ) (left : List Part) : Type 0 where
   pub ready : AreReady u r nodes_left left
-  pub tree : grown u nodes_left left ≡ grown t nodes parts
+  pub tree : with_parts u nodes_left left ≡ with_parts t nodes parts
   pub done : List Entry
   pub rest : news u nodes_left left ++ done ≡ news t nodes parts
   pub waits : IsPermutation (done ++ q.waiting) r.waiting
@@ -150,7 +150,7 @@ planted_more t q nodes parts u v r s n nodes_left part left h e whole k keeps =
     let own = waits n (part_value part) in
     record {
       ready = ready_more u v r s n nodes_left part left h.ready e whole k keeps;
-      tree = ap (λ (x : WorkTreeValue). grown x (next (length u.leaves) part nodes_left) left) e ∙ h.tree;
+      tree = ap (λ (x : WorkTreeValue). with_parts x (next (length u.leaves) part nodes_left) left) e ∙ h.tree;
       done = own ++ h.done;
       rest =
           ap (λ (x : WorkTreeValue). news x (next (length u.leaves) part nodes_left) left ++ (own ++ h.done)) e
@@ -164,7 +164,7 @@ planted_more t q nodes parts u v r s n nodes_left part left h e whole k keeps =
 -- the end, where no part is left
 pub record AreAllPlanted (t : WorkTreeValue) (q : QueueValue) (nodes : List ℕ) (parts : List Part)
     (u : WorkTreeValue) (r : QueueValue) : Type 0 where
-  pub tree : u ≡ grown t nodes parts
+  pub tree : u ≡ with_parts t nodes parts
   pub whole : IsWhole u
   pub waits : IsPermutation (news t nodes parts ++ q.waiting) r.waiting
   pub parked : IsPermutation q.parked r.parked
@@ -207,7 +207,7 @@ pub ready_once : (t u : WorkTreeValue) (q r s : QueueValue) (node value : ℕ) (
     → u ≡ with_room t u.room → length t.leaves + length parts ≤ u.room + 1 → r.waiting ≡ q.waiting
     → r.parked ≡ q.parked → length t.leaves + length parts ≤ r.numbers + 1
     → length (all_of q) + length parts ≤ r.room
-    → KeepsLimits r → IsWithout r s node value → KeepsRoom r s → AreReady u s (node ∷ []) parts
+    → QueueKeepsLimits r → IsWithout r s node value → KeepsRoom r s → AreReady u s (node ∷ []) parts
 ready_once t u q r s node value parts whole some shape few beyond e room waiting parked numbers free limits without keeps =
     let long : length u.leaves ≡ length t.leaves = ap (λ (x : WorkTreeValue). length x.leaves) e in
     let less = one_less r s node value without in
@@ -234,7 +234,7 @@ planted_there t u v q r s w node value parts e waiting parked without all =
     let same : s.waiting ≡ q.waiting = without.waiting ∙ waiting in
     record {
       room = u.room;
-      tree = all.tree ∙ ap (λ (x : WorkTreeValue). grown x (node ∷ []) parts) e;
+      tree = all.tree ∙ ap (λ (x : WorkTreeValue). with_parts x (node ∷ []) parts) e;
       queue = record {
         value = value;
         parked = subst (λ (xs : List Entry). IsPermutation xs (entry node value ∷ w.parked)) parked

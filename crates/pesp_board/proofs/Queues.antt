@@ -8,9 +8,9 @@ use Rattle.std.proofs.lemmas.List.Elements.{Contains-append_cases, Contains-appe
 use Rattle.std.proofs.lemmas.List.Sorted.{IsPermutation-refl, IsPermutation-sym, IsPermutation-trans, IsPermutation-append, IsPermutation-middle, Contains-permutation}
 use Rattle.pesp_nodes.specs.Problems.{ProblemValue}
 use Rattle.pesp_tree.specs.WorkTrees.{WorkTreeValue}
-use Rattle.pesp_queue.specs.declared.entry.Entry.{Entry}
-use Rattle.pesp_queue.specs.Entries.{entry, item_at, HasItem, ItemsDiffer}
-use Rattle.pesp_queue.specs.Queues.{QueueValue, all_of}
+use Rattle.pesp_tree.specs.declared.entry.Entry.{Entry}
+use Rattle.pesp_tree.specs.Entries.{entry, item_at, HasItem, ItemsDiffer}
+use Rattle.pesp_tree.specs.Queues.{QueueValue, all_of}
 use Rattle.pesp_board.specs.declared.slot.Slot.{Slot}
 use Rattle.pesp_board.specs.declared.slot.Slot.TheVariants.{Lent as LentSlot, Recalled as RecalledSlot}
 use Rattle.pesp_board.specs.Insides.{slot_at, IsQueue}

@@ -4,10 +4,10 @@ use Rattle.std.specs.Prelude.{Option, Some, None}
 use Rattle.std.specs.List.Sorted.{IsPermutation}
 use Rattle.pesp_nodes.specs.Problems.{ProblemValue}
 use Rattle.pesp_tree.specs.WorkTrees.{WorkTreeValue, path_to}
-use Rattle.pesp_queue.specs.Entries.{entry, HasItem, ItemsDiffer}
-use Rattle.pesp_queue.specs.Queues.{QueueValue, all_of}
-use Rattle.pesp_machine.specs.Events.{Recalls, Recall}
-use Rattle.pesp_machine.proofs.Runs.{step_is_orderly}
+use Rattle.pesp_tree.specs.Entries.{entry, HasItem, ItemsDiffer}
+use Rattle.pesp_tree.specs.Queues.{QueueValue, all_of}
+use Rattle.pesp_tree.specs.Events.{Recalls, Recall}
+use Rattle.pesp_tree.proofs.Runs.{step_is_orderly}
 use Rattle.pesp_board.specs.declared.best.Best.{Best}
 use Rattle.pesp_board.specs.declared.slot.Slot.{Slot}
 use Rattle.pesp_board.specs.declared.slot.Slot.TheVariants.{Recalled as RecalledSlot}

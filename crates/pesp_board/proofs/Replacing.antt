@@ -5,9 +5,9 @@ use Rattle.std.specs.List.Sorted.{IsPermutation}
 use Rattle.std.proofs.lemmas.List.{length-append}
 use Rattle.std.proofs.lemmas.List.Elements.{All-contains, Contains-append_cases, Contains-append_left, Contains-append_right}
 use Rattle.std.proofs.lemmas.List.Sorted.{IsPermutation-sym, length_permutation, Contains-permutation}
-use Rattle.pesp_queue.specs.declared.entry.Entry.{Entry}
-use Rattle.pesp_queue.specs.Entries.{entry, HasItem}
-use Rattle.pesp_queue.specs.Queues.{QueueValue, all_of, KeepsLimits}
+use Rattle.pesp_tree.specs.declared.entry.Entry.{Entry}
+use Rattle.pesp_tree.specs.Entries.{entry, HasItem}
+use Rattle.pesp_tree.specs.Queues.{QueueValue, all_of, QueueKeepsLimits}
 use Rattle.pesp_board.specs.Growing.{waits}
 use Rattle.pesp_board.proofs.Counting.{gone}
 use Rattle.pesp_board.proofs.Queues.{none_held, one_held, held_more}
@@ -22,7 +22,7 @@ pub record IsWith (r s : QueueValue) (node : ℕ) (value : Option ℕ) : Type 0 
   pub waiting : IsPermutation (waits node value ++ r.waiting) s.waiting
   pub parked : IsPermutation r.parked s.parked
 
-pub parked_numbered : (q : QueueValue) (node : ℕ) → KeepsLimits q → HasItem q.parked node → node < q.numbers
+pub parked_numbered : (q : QueueValue) (node : ℕ) → QueueKeepsLimits q → HasItem q.parked node → node < q.numbers
 parked_numbered q node k h = All-contains (λ (e : Entry). e.item < q.numbers) (all_of q)
     (entry node h.0) k.numbered (Contains-append_right q.waiting q.parked (entry node h.0) h.1)
 
@@ -50,7 +50,7 @@ one_more r s node value k =
       length-append s.waiting s.parked,
     )
 
-pub node_gone : (q r : QueueValue) (node value : ℕ) → KeepsLimits q → IsWithout q r node value → HasItem (all_of r) node → ⊥
+pub node_gone : (q r : QueueValue) (node value : ℕ) → QueueKeepsLimits q → IsWithout q r node value → HasItem (all_of r) node → ⊥
 node_gone q r node value limits k has = gone q.waiting q.parked r.parked node value limits.differ k.parked
     (subst (λ (xs : List Entry). HasItem (xs ++ r.parked) node) k.waiting has)
 

@@ -11,10 +11,10 @@ use Rattle.pesp_truth.specs.Trees.{Tree, Line, Ends, Branch, Bound, Gap, preorde
 use Rattle.pesp_truth.specs.Leaves.{put}
 use Rattle.pesp_nodes.specs.Problems.{ProblemValue}
 use Rattle.pesp_tree.specs.WorkTrees.{WorkTreeValue, IsWhole, path_to, leaf_at}
-use Rattle.pesp_machine.specs.declared.work.Work.{Work}
-use Rattle.pesp_machine.specs.Limits.{IsSmallTree, pairs_in}
-use Rattle.pesp_machine.specs.States.{node_at}
-use Rattle.pesp_machine.proofs.Sizes.{put_lines_add_up, put_pairs_add_up}
+use Rattle.pesp_tree.specs.declared.work.Work.{Work}
+use Rattle.pesp_tree.specs.Limits.{IsSmallTree, pairs_in}
+use Rattle.pesp_tree.specs.States.{node_at}
+use Rattle.pesp_tree.proofs.Sizes.{put_lines_add_up, put_pairs_add_up}
 use Rattle.pesp_tree.specs.Leaves.{leaf_of}
 use Rattle.pesp_board.specs.declared.part.Part.{Part}
 use Rattle.pesp_board.specs.declared.part.Made.{Made}

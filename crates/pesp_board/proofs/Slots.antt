@@ -7,8 +7,8 @@ use Rattle.pesp_problem.specs.declared.cut.Cut.{Cut}
 use Rattle.pesp_problem.specs.declared.cut.Side.{Side}
 use Rattle.pesp_nodes.specs.Problems.{ProblemValue}
 use Rattle.pesp_tree.specs.WorkTrees.{WorkTreeValue, path_to}
-use Rattle.pesp_machine.specs.States.{Lent, Recalled}
-use Rattle.pesp_machine.specs.Reached.{IsOrderly}
+use Rattle.pesp_tree.specs.States.{Lent, Recalled}
+use Rattle.pesp_tree.specs.Reached.{IsOrderly}
 use Rattle.pesp_board.specs.declared.slot.Slot.{Slot}
 use Rattle.pesp_board.specs.declared.slot.Slot.TheVariants.{Lent as LentSlot, Given as GivenSlot, Recalled as RecalledSlot}
 use Rattle.pesp_board.specs.Insides.{ticket_of, state_of, slot_at, IsLentNode}

@@ -6,10 +6,10 @@ use Rattle.pesp_problem.specs.Nodes.{Node}
 use Rattle.pesp_problem.specs.Families.{NoFamilyIsSupported}
 use Rattle.pesp_network.specs.declared.row.NetRow.{NetRow}
 use Rattle.pesp_network.specs.Networks.{NetworkValue, KeepsNetLimits, RowKeepsNetLimits, arc_of_net, net_of_network}
-use Rattle.pesp_truth.specs.Trees.{ByPropagation}
+use Rattle.pesp_truth.specs.Trees.{Plain, ByPropagation}
 use Rattle.pesp_truth.proofs.Events.{any_count}
-use Rattle.pesp_nodes.specs.Problems.{ProblemValue, net_of}
-use Rattle.pesp_machine.specs.Events.{MayShut}
+use Rattle.pesp_nodes.specs.Problems.{ProblemValue, problem_net}
+use Rattle.pesp_tree.specs.Events.{MayShut}
 
 ends_exist : (events : ℕ) (period : ℕ) (row : NetRow) → RowKeepsNetLimits period events row
     → ((arc_of_net row).tail < events) × ((arc_of_net row).head < events)
@@ -17,10 +17,10 @@ ends_exist events period row h = (h.tail, h.head)
 
 -- a node is shut by propagation exactly where no family of the network's events is supported
 pub may_shut : (p : ProblemValue) (node : Node) → KeepsNetLimits p.network
-    → MayShut p node ByPropagation ↔ NoFamilyIsSupported (net_of p) node.slacks p.network.events
+    → MayShut p node ByPropagation ↔ NoFamilyIsSupported (problem_net p) node.slacks p.network.events
 may_shut p node limits =
     let some : 0 < p.network.period = let least = limits.some_period in omega arith in
-    let counted = any_count None (net_of p) p.table node p.network.events some
+    let counted = any_count (Plain None) (problem_net p) p.table node p.network.events some
     (All-map (λ arc. (arc.tail < p.network.events) × (arc.head < p.network.events)) arc_of_net p.network.rows
     (λ i d l. ends_exist p.network.events p.network.period _ (limits.each i d l))) in
     (λ shut. counted.0 shut.1, λ none. (tt, counted.1 none))
@@ -32,7 +32,7 @@ pub told : (p : ProblemValue) (node : Node) (network : NetworkValue) (slacks : L
     → IsTrue shut ↔ MayShut p node ByPropagation
 told p node network slacks shut limits e f tells =
     let same : NoFamilyIsSupported (net_of_network network) slacks network.events
-    ↔ NoFamilyIsSupported (net_of p) node.slacks p.network.events =
+    ↔ NoFamilyIsSupported (problem_net p) node.slacks p.network.events =
     subst (λ (n : NetworkValue). NoFamilyIsSupported (net_of_network network) slacks network.events
     ↔ NoFamilyIsSupported (net_of_network n) node.slacks n.events) e
     (subst (λ (x : List (ℕ × ℕ)). NoFamilyIsSupported (net_of_network network) slacks network.events

@@ -10,23 +10,22 @@ use Rattle.pesp_problem.specs.declared.cut.Cut.TheVariants as cuts
 use Rattle.pesp_problem.specs.declared.cut.Side.TheVariants.{Low, High}
 use Rattle.pesp_problem.specs.Walks.{Names}
 use Rattle.pesp_problem.specs.Nodes.{Node, low_part, high_part}
-use Rattle.pesp_truth.specs.Trees.{Line, EndLine, CutLine, AreSound}
+use Rattle.pesp_truth.specs.Trees.{Plain, Line, EndLine, CutLine, AreSound, line_of}
 use Rattle.pesp_truth.specs.declared.tree.TreeLine.{TreeLine}
 use Rattle.pesp_truth.specs.declared.tree.TreeLine.TheVariants.{Slack, Offset, Bound, Nothing, Gap, Propagated}
-use Rattle.pesp_truth.specs.Certificates.{line_of}
 use Rattle.pesp_network.specs.Networks.{arc_of_net}
-use Rattle.pesp_nodes.specs.Problems.{ProblemValue, net_of, IsNodeOf, IsCutOf, IsPairOf, ArePairs, Rise}
+use Rattle.pesp_nodes.specs.Problems.{ProblemValue, problem_net, IsNodeOf, IsCutOf, IsPairOf, ArePairs, Rise}
 use Rattle.pesp_cert_lines.specs.Pairs.{is_pair_within, all_within, follows, rise_from}
 use Rattle.pesp_cert_lines.specs.Rows.{is_name}
 use Rattle.pesp_cert_lines.proofs.Tests.{and_left, and_right}
-use Rattle.pesp_cert.specs.Limits.{are_pairs, is_line}
-use Rattle.pesp_machine.specs.Limits.{IsLineOf}
-use Rattle.pesp_machine.specs.States.{root_of}
+use Rattle.pesp_cert.specs.Limits.{are_pairs, line_keeps_limits}
+use Rattle.pesp_tree.specs.Limits.{IsLineOf}
+use Rattle.pesp_tree.specs.States.{root_of}
 use Rattle.pesp_board.specs.declared.part.Part.{Part}
 use Rattle.pesp_board.specs.declared.part.Part.TheVariants.{Cut as CutPart, Leaf as LeafPart}
 use Rattle.pesp_board.specs.Parts.{part_line, part_lines, AreValued}
 use Rattle.pesp_board.specs.Grafting.{after, after_first, StandsFirst, IsValuedPart}
-use Rattle.pesp_board.specs.Adopting.{IsSoundLine, AreSoundLines, AreLinesOf, AreNodesOf}
+use Rattle.pesp_board.specs.Adopting.{IsSoundForSome, AreSoundLines, AreLinesOf, AreNodesOf}
 use Rattle.pesp_board.proofs.Paths.{root_is_node, cut_of_node}
 use Rattle.pesp_board.proofs.Judged.{part_fits, lines_more, value_more}
 
@@ -78,7 +77,7 @@ pairs_are n pairs e names = record {
 
 -- ---- lines
 
-slack_is : (p : ProblemValue) (row k : ℕ) → is_line (Slack row k) ≡ true → Names (length (net_of p).arcs) row
+slack_is : (p : ProblemValue) (row k : ℕ) → line_keeps_limits (Slack row k) ≡ true → Names (length (problem_net p).arcs) row
     → IsCutOf (root_of p) (cuts.Slack row k)
 slack_is p row k e names =
     let small : k ≤ 9999 = (let within = and_right (is_name row) (nat_le k 9999) e in grind (arith, nat_tests, within)) in
@@ -88,7 +87,7 @@ slack_is p row k e names =
     let most = names.1 in
     ((names.0, omega (arith, wide, long, most)), small)
 
-offset_is : (p : ProblemValue) (cycle : ℕ) (k : ℤ) → is_line (Offset cycle k) ≡ true → Names (length p.table) cycle
+offset_is : (p : ProblemValue) (cycle : ℕ) (k : ℤ) → line_keeps_limits (Offset cycle k) ≡ true → Names (length p.table) cycle
     → IsCutOf (root_of p) (cuts.Offset cycle k)
 offset_is p cycle k e names =
     let small : unsigned_abs k ≤ 100000000000000 = (let within = and_right (is_name cycle) _ e in grind (arith, nat_tests, within)) in
@@ -98,38 +97,38 @@ offset_is p cycle k e names =
     ((names.0, omega (arith, wide, most)), small)
 
 lines_keep : (p : ProblemValue) (least : Option ℕ) (lines : List TreeLine) (nodes : List Node)
-    → list_all is_line lines ≡ true → AreSound None (net_of p) p.table least (map line_of lines) nodes
+    → list_all line_keeps_limits lines ≡ true → AreSound (Plain least) (problem_net p) p.table (map line_of lines) nodes
     → AreLinesOf p (map line_of lines)
 lines_keep p least [] nodes e s = All-nil (IsLineOf p)
 lines_keep p least (line ∷ lines) [] e s = absurd s
 lines_keep p least (Slack row k ∷ lines) (node ∷ nodes) e s =
     All-cons (IsLineOf p) (CutLine (cuts.Slack row k)) (map line_of lines)
-    (slack_is p row k (and_left (is_line (Slack row k)) (list_all is_line lines) e) s.0)
+    (slack_is p row k (and_left (line_keeps_limits (Slack row k)) (list_all line_keeps_limits lines) e) s.0)
     (lines_keep p least lines (low_part node (cuts.Slack row k) ∷ high_part node (cuts.Slack row k) ∷ nodes)
-    (and_right (is_line (Slack row k)) (list_all is_line lines) e) s.1)
+    (and_right (line_keeps_limits (Slack row k)) (list_all line_keeps_limits lines) e) s.1)
 lines_keep p least (Offset cycle k ∷ lines) (node ∷ nodes) e s =
     All-cons (IsLineOf p) (CutLine (cuts.Offset cycle k)) (map line_of lines)
-    (offset_is p cycle k (and_left (is_line (Offset cycle k)) (list_all is_line lines) e) s.0)
+    (offset_is p cycle k (and_left (line_keeps_limits (Offset cycle k)) (list_all line_keeps_limits lines) e) s.0)
     (lines_keep p least lines (low_part node (cuts.Offset cycle k) ∷ high_part node (cuts.Offset cycle k)
-    ∷ nodes) (and_right (is_line (Offset cycle k)) (list_all is_line lines) e) s.1)
+    ∷ nodes) (and_right (line_keeps_limits (Offset cycle k)) (list_all line_keeps_limits lines) e) s.1)
 lines_keep p least (Bound pairs ∷ lines) (node ∷ nodes) e s =
     All-cons (IsLineOf p) (line_of (Bound pairs)) (map line_of lines)
-    (pairs_are (length p.table) pairs (and_left (is_line (Bound pairs)) (list_all is_line lines) e) s.0.0)
-    (lines_keep p least lines nodes (and_right (is_line (Bound pairs)) (list_all is_line lines) e) s.1)
+    (pairs_are (length p.table) pairs (and_left (line_keeps_limits (Bound pairs)) (list_all line_keeps_limits lines) e) s.0.0)
+    (lines_keep p least lines nodes (and_right (line_keeps_limits (Bound pairs)) (list_all line_keeps_limits lines) e) s.1)
 lines_keep p least (Nothing pairs ∷ lines) (node ∷ nodes) e s =
     All-cons (IsLineOf p) (line_of (Nothing pairs)) (map line_of lines)
-    (pairs_are (length p.table) pairs (and_left (is_line (Nothing pairs)) (list_all is_line lines) e) s.0.0)
-    (lines_keep p least lines nodes (and_right (is_line (Nothing pairs)) (list_all is_line lines) e) s.1)
+    (pairs_are (length p.table) pairs (and_left (line_keeps_limits (Nothing pairs)) (list_all line_keeps_limits lines) e) s.0.0)
+    (lines_keep p least lines nodes (and_right (line_keeps_limits (Nothing pairs)) (list_all line_keeps_limits lines) e) s.1)
 lines_keep p least (Gap cycle ∷ lines) (node ∷ nodes) e s =
     All-cons (IsLineOf p) (line_of (Gap cycle)) (map line_of lines) s.0.0
-    (lines_keep p least lines nodes (and_right (is_line (Gap cycle)) (list_all is_line lines) e) s.1)
+    (lines_keep p least lines nodes (and_right (line_keeps_limits (Gap cycle)) (list_all line_keeps_limits lines) e) s.1)
 lines_keep p least (Propagated ∷ lines) (node ∷ nodes) e s =
     All-cons (IsLineOf p) (line_of Propagated) (map line_of lines) tt
-    (lines_keep p least lines nodes (and_right (is_line Propagated) (list_all is_line lines) e) s.1)
+    (lines_keep p least lines nodes (and_right (line_keeps_limits Propagated) (list_all line_keeps_limits lines) e) s.1)
 
 -- the lines of a tree that is sound keep their limits where they are a certificate's
 pub sound_lines_keep : (p : ProblemValue) (lines : List TreeLine) (nodes : List Node)
-    → list_all is_line lines ≡ true → AreSoundLines p (map line_of lines) nodes → AreLinesOf p (map line_of lines)
+    → list_all line_keeps_limits lines ≡ true → AreSoundLines p (map line_of lines) nodes → AreLinesOf p (map line_of lines)
 sound_lines_keep p lines nodes e s = lines_keep p s.0 lines nodes e s.1
 
 -- ---- the lines that are left
@@ -152,7 +151,7 @@ fits_after p (CutLine cut) node nodes f = (part_fits p node cut Low f.0, (part_f
 
 sound_first : (p : ProblemValue) (line : Line) (lines : List Line) (node : Node) (nodes : List Node)
     → AreSoundLines p (line ∷ lines) (node ∷ nodes)
-    → IsSoundLine p node line × AreSoundLines p lines (after line node nodes)
+    → IsSoundForSome p node line × AreSoundLines p lines (after line node nodes)
 sound_first p (EndLine leaf) lines node nodes s = ((s.0, s.1.0), (s.0, s.1.1))
 sound_first p (CutLine cut) lines node nodes s = (s.1.0, (s.0, s.1.1))
 
@@ -201,7 +200,7 @@ module _ (lines : List TreeLine) (k : ℕ) (line : TreeLine) (within : k < lengt
       pub fits_there : IsNodeOf p n
       fits_there = first.fits.0
 
-      pub sound_there : IsSoundLine p n (line_of line)
+      pub sound_there : IsSoundForSome p n (line_of line)
       sound_there = (sound_first p (line_of line) (map line_of (drop (k + 1) lines)) n rest first.sound).0
 
       pub may_pass : (part : Part) → part_line part ≡ line_of line → StandsFirst nodes part

@@ -6,10 +6,10 @@ use Rattle.pesp_problem.specs.declared.pair.Pair.{Pair}
 use Rattle.pesp_truth.specs.Trees.{Bound}
 use Rattle.pesp_nodes.specs.Problems.{ProblemValue}
 use Rattle.pesp_tree.specs.WorkTrees.{WorkTreeValue, path_to, leaf_at}
-use Rattle.pesp_queue.specs.Entries.{entry, HasItem}
-use Rattle.pesp_queue.specs.Queues.{QueueValue}
-use Rattle.pesp_machine.specs.States.{TellsLeaf, value_at}
-use Rattle.pesp_machine.specs.Leaves.{told}
+use Rattle.pesp_tree.specs.Entries.{entry, HasItem}
+use Rattle.pesp_tree.specs.Queues.{QueueValue}
+use Rattle.pesp_tree.specs.States.{TellsLeaf, value_at}
+use Rattle.pesp_tree.specs.BoardLeaves.{told}
 use Rattle.pesp_board.specs.declared.best.Best.{Best}
 use Rattle.pesp_board.specs.declared.slot.Slot.{Slot}
 use Rattle.pesp_board.specs.Insides.{ticket_of, times_of, state_of, slot_at, LendsNode, IsBoard}

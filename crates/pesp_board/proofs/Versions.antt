@@ -2,8 +2,8 @@
 use Rattle.std.proofs.Common.{◌≡◌, ℕ, List, map, drop}
 use Rattle.std.specs.List.{list_any}
 use Rattle.pesp_truth.specs.declared.tree.TreeLine.{TreeLine}
-use Rattle.pesp_truth.specs.Certificates.{line_of}
-use Rattle.pesp_machine.specs.Certificates.{is_propagated}
+use Rattle.pesp_truth.specs.Trees.{line_of}
+use Rattle.pesp_tree.specs.Certificates.{is_propagated}
 
 -- the lines before a place are those of other leaves
 abbrev pub RestDecides : List TreeLine → ℕ → Type 0

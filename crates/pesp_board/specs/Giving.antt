@@ -8,19 +8,19 @@ use Rattle.pesp_problem.specs.declared.cut.Cut.{Cut}
 use Rattle.pesp_problem.specs.declared.cut.Side.{Side}
 use Rattle.pesp_problem.specs.Nodes.{Node, leaf_value, low_part, high_part}
 use Rattle.pesp_truth.specs.Trees.{Tree, Ends, Branch, Bound, Line, preorder}
-use Rattle.pesp_nodes.specs.Problems.{ProblemValue, net_of, ArePairs, IsCutOf}
+use Rattle.pesp_nodes.specs.Problems.{ProblemValue, problem_net, ArePairs, IsCutOf}
 use Rattle.pesp_truth.specs.Leaves.{put}
 use Rattle.pesp_tree.specs.Leaves.{leaf_of}
 use Rattle.pesp_tree.specs.WorkTrees.{WorkTreeValue, path_to, leaf_at}
-use Rattle.pesp_queue.specs.declared.entry.Entry.{Entry}
-use Rattle.pesp_queue.specs.Entries.{entry}
-use Rattle.pesp_queue.specs.Queues.{QueueValue}
-use Rattle.pesp_machine.specs.declared.work.Work.{Work}
-use Rattle.pesp_machine.specs.declared.refusal.GiveRefusal.{GiveRefusal}
-use Rattle.pesp_machine.specs.declared.refusal.GiveRefusal.TheVariants.{UnknownJob, AlreadyGiven, NotValid, Memory, TooLarge}
-use Rattle.pesp_machine.specs.Limits.{IsSmallTree, KeepsTreeLimits, pairs_in}
-use Rattle.pesp_machine.specs.States.{root_of, node_at}
-use Rattle.pesp_machine.specs.Events.{Makes, IsValidAt}
+use Rattle.pesp_tree.specs.declared.entry.Entry.{Entry}
+use Rattle.pesp_tree.specs.Entries.{entry}
+use Rattle.pesp_tree.specs.Queues.{QueueValue}
+use Rattle.pesp_tree.specs.declared.work.Work.{Work}
+use Rattle.pesp_tree.specs.declared.refusal.GiveRefusal.{GiveRefusal}
+use Rattle.pesp_tree.specs.declared.refusal.GiveRefusal.TheVariants.{UnknownJob, AlreadyGiven, NotValid, Memory, TooLarge}
+use Rattle.pesp_tree.specs.Limits.{IsSmallTree, KeepsTreeLimits, pairs_in}
+use Rattle.pesp_tree.specs.States.{root_of, node_at}
+use Rattle.pesp_tree.specs.Events.{Makes, IsValidAt}
 use Rattle.pesp_board.specs.declared.slot.Slot.{Slot}
 use Rattle.pesp_board.specs.declared.slot.Slot.TheVariants.{Lent as LentSlot, Given as GivenSlot, Recalled as RecalledSlot}
 use Rattle.pesp_board.specs.declared.part.Part.{Part}
@@ -48,7 +48,7 @@ AreCuts p path = All (λ (step : Cut × Side). IsCutOf (root_of p) step.0) path
 
 -- the pairs rise, keep their limits, and have this value at the node
 abbrev pub HaveValue : ProblemValue → Node → List Pair → Bool → ℤ → Type 0
-HaveValue p node pairs weighted v = ArePairs (length p.table) pairs × (leaf_value (net_of p) p.table node pairs weighted ≡ Some v)
+HaveValue p node pairs weighted v = ArePairs (length p.table) pairs × (leaf_value (problem_net p) p.table node pairs weighted ≡ Some v)
 
 -- what a work makes of a bound leaf with these pairs at a node, or that it makes nothing
 abbrev pub MakesOf : ProblemValue → Node → List Pair → Work → Result Made GiveRefusal → Type 0

@@ -5,12 +5,12 @@ use Rattle.pesp_problem.specs.declared.cut.Cut.{Cut}
 use Rattle.pesp_problem.specs.declared.cut.Side.{Side}
 use Rattle.pesp_problem.specs.Nodes.{Node, low_part, high_part, LeavesBoth}
 use Rattle.pesp_truth.specs.Trees.{Line, Ends, EndLine, CutLine, CutExists}
-use Rattle.pesp_nodes.specs.Problems.{ProblemValue, net_of, IsNodeOf}
+use Rattle.pesp_nodes.specs.Problems.{ProblemValue, problem_net, IsNodeOf}
 use Rattle.pesp_nodes.specs.Pending.{CutsFirst}
-use Rattle.pesp_machine.specs.declared.refusal.GiveRefusal.{GiveRefusal}
-use Rattle.pesp_machine.specs.declared.refusal.GiveRefusal.TheVariants.{UnknownJob, AlreadyGiven, NotValid, Memory, TooLarge}
-use Rattle.pesp_machine.specs.States.{node_at}
-use Rattle.pesp_machine.specs.Events.{IsGraft}
+use Rattle.pesp_tree.specs.declared.refusal.GiveRefusal.{GiveRefusal}
+use Rattle.pesp_tree.specs.declared.refusal.GiveRefusal.TheVariants.{UnknownJob, AlreadyGiven, NotValid, Memory, TooLarge}
+use Rattle.pesp_tree.specs.States.{node_at}
+use Rattle.pesp_tree.specs.Events.{IsGraft}
 use Rattle.pesp_board.specs.declared.part.Part.{Part}
 use Rattle.pesp_board.specs.declared.part.Part.TheVariants.{Cut as CutPart, Leaf as LeafPart}
 use Rattle.pesp_board.specs.Parts.{IsValued, AreValued, part_line, part_lines}
@@ -18,7 +18,7 @@ use Rattle.pesp_board.specs.Parts.{IsValued, AreValued, part_line, part_lines}
 -- the line may stand at a node in a tree that takes the place of a bound leaf of this worth
 abbrev pub IsGraftLine : ProblemValue → Option ℤ → Node → Line → Type 0
 IsGraftLine p worth node (EndLine leaf) = IsGraft p worth node (Ends leaf)
-IsGraftLine p worth node (CutLine cut) = CutExists (net_of p) p.table cut × LeavesBoth node cut
+IsGraftLine p worth node (CutLine cut) = CutExists (problem_net p) p.table cut × LeavesBoth node cut
 
 -- the nodes that wait after a line of the first of them
 abbrev pub after : Line → Node → List Node → List Node
@@ -68,10 +68,10 @@ AreReached p [] = Unit {0}
 AreReached p (node ∷ nodes) = IsReached p node × AreReached p nodes
 
 -- the parts that lines make of a bound leaf at nodes, or that they aren't whole trees that may stand there, one for each of the nodes
-abbrev pub IsJudged : ProblemValue → Option ℤ → List Node → List Line → Result (Vec Part) GiveRefusal → Type 0
-IsJudged p worth nodes lines (Ok parts) = AreGrafts p worth lines nodes × (part_lines parts.items ≡ lines) × AreValued p nodes parts.items
-IsJudged p worth nodes lines (Err NotValid) = AreGrafts p worth lines nodes → ⊥
-IsJudged p worth nodes lines (Err Memory) = Unit {0}
-IsJudged p worth nodes lines (Err UnknownJob) = ⊥
-IsJudged p worth nodes lines (Err AlreadyGiven) = ⊥
-IsJudged p worth nodes lines (Err TooLarge) = ⊥
+abbrev pub AreJudgedParts : ProblemValue → Option ℤ → List Node → List Line → Result (Vec Part) GiveRefusal → Type 0
+AreJudgedParts p worth nodes lines (Ok parts) = AreGrafts p worth lines nodes × (part_lines parts.items ≡ lines) × AreValued p nodes parts.items
+AreJudgedParts p worth nodes lines (Err NotValid) = AreGrafts p worth lines nodes → ⊥
+AreJudgedParts p worth nodes lines (Err Memory) = Unit {0}
+AreJudgedParts p worth nodes lines (Err UnknownJob) = ⊥
+AreJudgedParts p worth nodes lines (Err AlreadyGiven) = ⊥
+AreJudgedParts p worth nodes lines (Err TooLarge) = ⊥

@@ -4,9 +4,9 @@ use Rattle.pesp_problem.specs.declared.limits.TheConstants.{MOST_LINES}
 use Rattle.pesp_truth.specs.Trees.{Leaf, Gap, are_trees}
 use Rattle.pesp_tree.specs.Leaves.{leaf_of}
 use Rattle.pesp_tree.specs.WorkTrees.{WorkTreeValue, IsWhole, leaf_at, with_leaf, with_branch, with_room}
-use Rattle.pesp_queue.specs.declared.entry.Entry.{Entry}
-use Rattle.pesp_queue.specs.Entries.{entry, HasItem}
-use Rattle.pesp_queue.specs.Queues.{QueueValue, all_of}
+use Rattle.pesp_tree.specs.declared.entry.Entry.{Entry}
+use Rattle.pesp_tree.specs.Entries.{entry, HasItem}
+use Rattle.pesp_tree.specs.Queues.{QueueValue, all_of}
 use Rattle.pesp_board.specs.declared.part.Part.{Part}
 use Rattle.pesp_board.specs.declared.part.Part.TheVariants.{Cut as CutPart, Leaf as LeafPart}
 use Rattle.pesp_board.specs.Parts.{part_lines}
@@ -18,12 +18,12 @@ waits node None = []
 waits node (Some value) = entry node value ∷ []
 
 -- the leaf that a new node has until it gets its own
-abbrev pub blank : Leaf
-blank = Gap 0
+abbrev pub blank_leaf : Leaf
+blank_leaf = Gap 0
 
 -- the tree with a part at a node: its leaf, or a branch with two blank leaves
 abbrev pub with_part : WorkTreeValue → ℕ → Part → WorkTreeValue
-with_part t node (CutPart cut) = with_branch t node cut blank blank
+with_part t node (CutPart cut) = with_branch t node cut blank_leaf blank_leaf
 with_part t node (LeafPart part) = with_leaf t node (leaf_of part.leaf)
 
 -- the nodes that are still without their part, once the one before them has got this one; new nodes are numbered from k
@@ -37,15 +37,15 @@ part_value (CutPart cut) = None
 part_value (LeafPart part) = part.value
 
 -- there is room for the nodes that a part makes
-abbrev pub Grows : WorkTreeValue → Part → Type 0
-Grows t (CutPart cut) = (length t.leaves + 2 ≤ t.room) × (length t.leaves + 2 ≤ MOST_LINES)
-Grows t (LeafPart part) = Unit {0}
+abbrev pub HasRoomForPart : WorkTreeValue → Part → Type 0
+HasRoomForPart t (CutPart cut) = (length t.leaves + 2 ≤ t.room) × (length t.leaves + 2 ≤ MOST_LINES)
+HasRoomForPart t (LeafPart part) = Unit {0}
 
 -- the tree once these nodes have got the parts, in preorder
-abbrev pub grown : WorkTreeValue → List ℕ → List Part → WorkTreeValue
-grown t nodes [] = t
-grown t [] (part ∷ parts) = t
-grown t (node ∷ nodes) (part ∷ parts) = grown (with_part t node part) (next (length t.leaves) part nodes) parts
+abbrev pub with_parts : WorkTreeValue → List ℕ → List Part → WorkTreeValue
+with_parts t nodes [] = t
+with_parts t [] (part ∷ parts) = t
+with_parts t (node ∷ nodes) (part ∷ parts) = with_parts (with_part t node part) (next (length t.leaves) part nodes) parts
 
 -- the entries of the bound leaves among the parts
 abbrev pub news : WorkTreeValue → List ℕ → List Part → List Entry
@@ -85,5 +85,5 @@ pub record AreReady (t : WorkTreeValue) (q : QueueValue) (nodes : List ℕ) (par
 -- the tree and the queue with the parts at a parked node, once room was made
 pub record IsPlanted (t : WorkTreeValue) (q : QueueValue) (node : ℕ) (parts : List Part) (u : WorkTreeValue) (r : QueueValue) : Type 0 where
   pub room : ℕ
-  pub tree : u ≡ grown (with_room t room) (node ∷ []) parts
+  pub tree : u ≡ with_parts (with_room t room) (node ∷ []) parts
   pub queue : Replaces q node (news (with_room t room) (node ∷ []) parts) r

@@ -6,13 +6,13 @@ use Rattle.pesp_truth.specs.Trees.{Bound, preorder}
 use Rattle.pesp_network.specs.Networks.{KeepsNetLimits}
 use Rattle.pesp_nodes.specs.Problems.{ProblemValue, IsSmallTable}
 use Rattle.pesp_tree.specs.WorkTrees.{WorkTreeValue, IsWhole, path_to, leaf_at}
-use Rattle.pesp_queue.specs.declared.entry.Entry.{Entry}
-use Rattle.pesp_queue.specs.Entries.{HasItem}
-use Rattle.pesp_queue.specs.Queues.{QueueValue, all_of}
-use Rattle.pesp_machine.specs.Leaves.{told}
-use Rattle.pesp_machine.specs.Limits.{pairs_in}
-use Rattle.pesp_machine.specs.States.{State, Ticket, Lent, Given, Recalled, value_at, best_cost}
-use Rattle.pesp_machine.specs.Reached.{IsOrderly}
+use Rattle.pesp_tree.specs.declared.entry.Entry.{Entry}
+use Rattle.pesp_tree.specs.Entries.{HasItem}
+use Rattle.pesp_tree.specs.Queues.{QueueValue, all_of}
+use Rattle.pesp_tree.specs.BoardLeaves.{told}
+use Rattle.pesp_tree.specs.Limits.{pairs_in}
+use Rattle.pesp_tree.specs.States.{State, Ticket, Lent, Given, Recalled, value_at, best_cost}
+use Rattle.pesp_tree.specs.Reached.{IsOrderly}
 use Rattle.pesp_board.specs.declared.best.Best.{Best}
 use Rattle.pesp_board.specs.declared.slot.Slot.{Slot}
 use Rattle.pesp_board.specs.declared.slot.Slot.TheVariants.{Lent as LentSlot, Given as GivenSlot, Recalled as RecalledSlot}
@@ -30,8 +30,8 @@ abbrev pub times_of : Option Best → Option (List ℕ)
 times_of best = option_map (λ b. b.times.items) best
 
 -- their cost
-abbrev pub cost_of : Option Best → Option ℕ
-cost_of best = option_map (λ b. b.cost) best
+abbrev pub best_cost_of : Option Best → Option ℕ
+best_cost_of best = option_map (λ b. b.cost) best
 
 -- the state of a board that is kept so
 abbrev pub state_of : WorkTreeValue → List Slot → Option (List ℕ) → State
@@ -74,5 +74,5 @@ pub record IsBoard (p : ProblemValue) (t : WorkTreeValue) (slots : List Slot) (q
   pub whole : IsWhole t
   pub orderly : IsOrderly p (state_of t slots (times_of best))
   pub queue : IsQueue p t slots q
-  pub cost : cost_of best ≡ best_cost p (state_of t slots (times_of best))
+  pub cost : best_cost_of best ≡ best_cost p (state_of t slots (times_of best))
   pub pairs : count ≡ sum_by pairs_in (preorder t.tree)

@@ -5,22 +5,22 @@ use Rattle.std.specs.List.Sorted.{IsPermutation}
 use Rattle.pesp_problem.specs.declared.limits.TheConstants.{MOST_LINES}
 use Rattle.pesp_truth.specs.Leaves.{leaf_paths}
 use Rattle.pesp_tree.specs.WorkTrees.{WorkTreeValue, path_to, leaf_at}
-use Rattle.pesp_queue.specs.declared.entry.Entry.{Entry}
-use Rattle.pesp_queue.specs.Entries.{entry}
-use Rattle.pesp_queue.specs.Queues.{QueueValue, all_of}
-use Rattle.pesp_machine.specs.declared.job.Job.{Job}
-use Rattle.pesp_machine.specs.declared.refusal.LendRefusal.{LendRefusal}
-use Rattle.pesp_machine.specs.declared.refusal.LendRefusal.TheVariants.{Memory, NumbersSpent}
-use Rattle.pesp_machine.specs.Events.{IsCheaper}
-use Rattle.pesp_machine.specs.Adopting.{AreNumbered}
+use Rattle.pesp_tree.specs.declared.entry.Entry.{Entry}
+use Rattle.pesp_tree.specs.Entries.{entry}
+use Rattle.pesp_tree.specs.Queues.{QueueValue, all_of}
+use Rattle.pesp_tree.specs.declared.job.Job.{Job}
+use Rattle.pesp_tree.specs.declared.refusal.LendRefusal.{LendRefusal}
+use Rattle.pesp_tree.specs.declared.refusal.LendRefusal.TheVariants.{Memory, NumbersSpent}
+use Rattle.pesp_tree.specs.Events.{IsCheaper}
+use Rattle.pesp_tree.specs.Adopting.{AreNumbered}
 use Rattle.pesp_board.specs.declared.best.Best.{Best}
 use Rattle.pesp_board.specs.declared.slot.Slot.{Slot}
 use Rattle.pesp_board.specs.declared.slot.Slot.TheVariants.{Lent as LentSlot}
-use Rattle.pesp_board.specs.Insides.{cost_of}
+use Rattle.pesp_board.specs.Insides.{best_cost_of}
 
 -- the node waits with a value below the best cost
 abbrev pub WaitsCheaper : QueueValue → Option Best → ℕ → Type 0
-WaitsCheaper q best node = (value : ℕ) × Contains q.waiting (entry node value) × IsCheaper value (cost_of best)
+WaitsCheaper q best node = (value : ℕ) × Contains q.waiting (entry node value) × IsCheaper value (best_cost_of best)
 
 -- those of the nodes that wait with a value below the best cost, in their order
 abbrev pub AreWaitingOf : QueueValue → Option Best → List ℕ → List ℕ → Type 0
@@ -46,5 +46,5 @@ LendsNodes t old nodes (Err Memory) new = new ≡ old
 pub record ParksOpen (q r : QueueValue) (best : Option Best) : Type 0 where
   pub same : IsPermutation (all_of r) (all_of q)
   pub kept : (e : Entry) → Contains q.parked e → Contains r.parked e
-  pub opens : (e : Entry) → Contains q.waiting e → IsCheaper e.value (cost_of best) → Contains r.parked e
-  pub only : (e : Entry) → Contains r.parked e → Contains q.parked e ⊎ (Contains q.waiting e × IsCheaper e.value (cost_of best))
+  pub opens : (e : Entry) → Contains q.waiting e → IsCheaper e.value (best_cost_of best) → Contains r.parked e
+  pub only : (e : Entry) → Contains r.parked e → Contains q.parked e ⊎ (Contains q.waiting e × IsCheaper e.value (best_cost_of best))

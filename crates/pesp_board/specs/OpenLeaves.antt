@@ -4,7 +4,7 @@ use Rattle.std.specs.List.{AllPairs}
 use Rattle.pesp_problem.specs.declared.cut.Cut.{Cut}
 use Rattle.pesp_problem.specs.declared.cut.Side.{Side}
 use Rattle.pesp_nodes.specs.Problems.{ProblemValue}
-use Rattle.pesp_machine.specs.States.{State, IsOpen}
+use Rattle.pesp_tree.specs.States.{State, IsOpen}
 
 -- so many leaves are open: these are the paths to them, each once
 pub record AreOpen (p : ProblemValue) (state : State) (count : ℕ) : Type 0 where

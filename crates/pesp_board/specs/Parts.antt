@@ -3,11 +3,11 @@ use Rattle.std.specs.Prelude.{◌≡◌, ℕ, ℤ, true, List, [], ◌∷◌, ma
 use Rattle.pesp_problem.specs.declared.pair.Pair.{Pair}
 use Rattle.pesp_problem.specs.Nodes.{Node, leaf_value, low_part, high_part}
 use Rattle.pesp_truth.specs.Trees.{Tree, Leaf, Bound, Shut, Line, EndLine, CutLine, preorder}
-use Rattle.pesp_nodes.specs.Problems.{ProblemValue, net_of}
+use Rattle.pesp_nodes.specs.Problems.{ProblemValue, problem_net}
 use Rattle.pesp_tree.specs.Leaves.{leaf_of}
-use Rattle.pesp_machine.specs.declared.work.Work.{Work}
-use Rattle.pesp_machine.specs.Leaves.{told}
-use Rattle.pesp_machine.specs.Events.{Makes}
+use Rattle.pesp_tree.specs.declared.work.Work.{Work}
+use Rattle.pesp_tree.specs.BoardLeaves.{told}
+use Rattle.pesp_tree.specs.Events.{Makes}
 use Rattle.pesp_board.specs.declared.part.Valued.{Valued}
 use Rattle.pesp_board.specs.declared.part.Part.{Part}
 use Rattle.pesp_board.specs.declared.part.Part.TheVariants.{Cut as CutPart, Leaf as LeafPart}
@@ -16,7 +16,7 @@ use Rattle.pesp_board.specs.declared.part.Made.TheVariants.{Leaf as MadeLeaf, Br
 
 -- the value under which the node of a leaf waits: that of a bound leaf there, as it is told, and none for another leaf
 abbrev pub IsWorthAt : ProblemValue → Node → Leaf → Option ℕ → Type 0
-IsWorthAt p node (Bound pairs) value = (v : ℤ) × (leaf_value (net_of p) p.table node pairs true ≡ Some v) × (value ≡ Some (told v))
+IsWorthAt p node (Bound pairs) value = (v : ℤ) × (leaf_value (problem_net p) p.table node pairs true ≡ Some v) × (value ≡ Some (told v))
 IsWorthAt p node (Shut reason) value = value ≡ None
 
 -- a leaf is valued rightly at a node

@@ -4,21 +4,21 @@ ghost use Rattle.std.specs.Prelude.{◌≡◌, ◌≤◌, ◌∷◌, [], length,
 ghost use Rattle.pesp_problem.specs.declared.limits.TheConstants.{MOST_LINES};
 ghost use Rattle.pesp_problem.specs.Limits as instances;
 ghost use Rattle.pesp_problem.specs.Nodes as spec;
-ghost use Rattle.pesp_truth.specs.Trees.{Bound, Nothing, EndLine, are_trees};
+ghost use Rattle.pesp_truth.specs.Trees.{Bound, Nothing, EndLine, are_trees, line_of};
 ghost use Rattle.pesp_truth.specs.Certificates as certificates;
-ghost use Rattle.pesp_truth.specs.Certificates.{IsValid, line_of, lines_of, shown_times};
-ghost use Rattle.pesp_cert.specs.Limits.{KeepsLimits};
-ghost use Rattle.pesp_nodes.specs.Problems.{ProblemValue, net_of, IsNodeOf, ArePairs};
+ghost use Rattle.pesp_truth.specs.Certificates.{IsValid, lines_of, shown_times};
+ghost use Rattle.pesp_cert.specs.Limits.{ContentKeepsLimits};
+ghost use Rattle.pesp_nodes.specs.Problems.{ProblemValue, problem_net, IsNodeOf, ArePairs};
 ghost use Rattle.pesp_tree.specs.WorkTrees.{IsWhole};
-ghost use Rattle.pesp_machine.specs.Adopting.{shown_best};
-ghost use Rattle.pesp_machine.specs.Certificates.{IsProblemOf};
-ghost use Rattle.pesp_machine.specs.Limits.{pairs_in, IsLineOf};
-ghost use Rattle.pesp_machine.specs.States.{root_of};
+ghost use Rattle.pesp_tree.specs.Adopting.{shown_best};
+ghost use Rattle.pesp_tree.specs.Certificates.{IsProblemOf};
+ghost use Rattle.pesp_tree.specs.Limits.{pairs_in, IsLineOf};
+ghost use Rattle.pesp_tree.specs.States.{root_of};
 ghost use Rattle.pesp_board.specs.Insides as insides;
 ghost use Rattle.pesp_board.specs.Insides.{times_of};
 ghost use Rattle.pesp_board.specs.Parts.{part_line, part_lines, AreValued};
 ghost use Rattle.pesp_board.specs.Grafting.{IsValuedPart};
-ghost use Rattle.pesp_board.specs.Adopting.{IsSoundLine, AreNodesOf, AreSoundLines, AreLinesOf, IsPlantedAlone, IsGrownOf};
+ghost use Rattle.pesp_board.specs.Adopting.{IsSoundForSome, AreNodesOf, AreSoundLines, AreLinesOf, IsPlantedAlone, IsGrownOf};
 
 use crate::best::Best;
 use crate::certification::copy_table;
@@ -31,14 +31,13 @@ use pesp_cert::Certificate;
 use pesp_network::Network;
 use pesp_nodes::{Node, NodeWalk, Problem, ProblemRefusal, leaf_value};
 use pesp_problem::{Cut, Instance, Memory, Pair};
-use pesp_queue::Queue;
-use pesp_tree::{Leaf, WorkTree};
+use pesp_tree::{Leaf, Queue, WorkTree};
 use pesp_truth::{Answer, TreeLine};
 use std::alloc::Global;
 
 /// What a board keeps of a certificate beside its cycles.
 #[derive(Drop)]
-pub(crate) struct Kept {
+pub(crate) struct AdoptedTree {
     pub(crate) tree: WorkTree,
     pub(crate) queue: Queue,
     pub(crate) best: Option<Best>,
@@ -48,7 +47,7 @@ pub(crate) struct Kept {
 /// An instance and a certificate keep their limits.
 pub(crate) fn keep_limits(instance: &Instance, certificate: &Certificate)
     ensures instance { instances.KeepsLimits instance.now }
-    ensures certificate { KeepsLimits certificate.now }
+    ensures certificate { ContentKeepsLimits certificate.now }
 {
     instance.period();
     certificate.answer();
@@ -74,17 +73,6 @@ pub(crate) fn problem_of(
     }
 }
 
-/// The cost that an answer tells, where it tells one.
-fn cost_of(answer: Answer) -> Option<u64>
-    ensures { result ≡ certificates.cost_of answer }
-{
-    match answer {
-        Answer::Optimal(cost) => Some(cost),
-        Answer::Infeasible => None,
-        Answer::Bounded { cost, .. } => cost,
-    }
-}
-
 /// Times without the labels of their events.
 fn unlabelled(alloc: Global, shown: &[(i64, u32)]) -> Result<Vec<u32>, Memory>
     ensures { IfOk result (λ times. times.items ≡ map (λ t. t.1) shown.now) }
@@ -98,9 +86,9 @@ fn best_of(alloc: Global, certificate: &Certificate) -> Result<Option<Best>, Mem
     ensures times { IfOk result
         (λ best. times_of best ≡ shown_best certificate.now.answer (shown_times certificate.now)) }
     ensures cost { IfOk result
-        (λ best. insides.cost_of best ≡ certificates.cost_of certificate.now.answer) }
+        (λ best. insides.best_cost_of best ≡ certificates.cost_of certificate.now.answer) }
 {
-    let Some(cost) = cost_of(certificate.answer()) else {
+    let Some(cost) = certificate.answer().cost() else {
         return Ok(None);
     };
     let times = unlabelled(alloc, certificate.times())?;
@@ -117,7 +105,7 @@ fn valued_bound(
     requires node { IsNodeOf problem.now node.now }
     requires pairs { ArePairs (length problem.now.table) pairs.now }
     requires value { IsSome
-        (spec.leaf_value (net_of problem.now) problem.now.table node.now pairs.now true) }
+        (spec.leaf_value (problem_net problem.now) problem.now.table node.now pairs.now true) }
     ensures line { IfOk result (λ part. part_line part ≡ EndLine (Bound pairs.now)) }
     ensures valued { IfOk result (IsValuedPart problem.now node.now) }
 {
@@ -145,7 +133,7 @@ fn valued_part(
     line: &TreeLine,
 ) -> Result<Part, Memory>
     requires node { IsNodeOf problem.now node.now }
-    requires sound { IsSoundLine problem.now node.now (line_of line.now) }
+    requires sound { IsSoundForSome problem.now node.now (line_of line.now) }
     requires limits { IsLineOf problem.now (line_of line.now) }
     ensures line { IfOk result (λ part. part_line part ≡ line_of line.now) }
     ensures valued { IfOk result (IsValuedPart problem.now node.now) }
@@ -233,19 +221,19 @@ pub(crate) fn kept_of(
     alloc: Global,
     problem: &Problem,
     certificate: &Certificate,
-) -> Result<Kept, Memory>
+) -> Result<AdoptedTree, Memory>
     requires { AreSoundLines problem.now (lines_of certificate.now) (root_of problem.now ∷ []) }
     ensures grown { IfOk result
         (λ kept. IsGrownOf problem.now certificate.now kept.tree kept.queue kept.pairs) }
     ensures times { IfOk result (λ kept. times_of kept.best
         ≡ shown_best certificate.now.answer (shown_times certificate.now)) }
     ensures cost { IfOk result
-        (λ kept. insides.cost_of kept.best ≡ certificates.cost_of certificate.now.answer) }
+        (λ kept. insides.best_cost_of kept.best ≡ certificates.cost_of certificate.now.answer) }
 {
     let best = best_of(alloc, certificate)?;
     let (parts, pairs) = parts_of_tree(alloc, problem, certificate)?;
     let (tree, queue) = plant_alone(alloc, parts)?;
-    Ok(Kept {
+    Ok(AdoptedTree {
         tree,
         queue,
         best,

@@ -2,7 +2,7 @@
 
 ghost use Rattle.std.specs.Prelude.{◌≡◌, IfOk};
 ghost use Rattle.pesp_nodes.specs.Problems.{IsNodeOf};
-ghost use Rattle.pesp_machine.specs.States.{node_at};
+ghost use Rattle.pesp_tree.specs.States.{node_at};
 ghost use Rattle.pesp_board.specs.Giving.{AreCuts};
 
 use pesp_nodes::{Node, Problem};

@@ -1,7 +1,7 @@
 //! The best timetable that was offered.
 
 ghost use Rattle.std.specs.Prelude.{◌≡◌, ◌↔◌, ◌<◌, ◌≤◌, ℕ};
-ghost use Rattle.pesp_machine.specs.Events.{IsCheaper};
+ghost use Rattle.pesp_tree.specs.Events.{IsCheaper};
 ghost use Rattle.pesp_board.specs.Insides as spec;
 
 /// Times, in the order of the events, and their cost.
@@ -13,7 +13,7 @@ pub(crate) struct Best {
 
 /// The cost of the best times; None where there are none.
 pub(crate) fn cost_of(best: &Option<Best>) -> Option<u64>
-    ensures { result ≡ spec.cost_of best.now }
+    ensures { result ≡ spec.best_cost_of best.now }
 {
     match best {
         None => None,
@@ -24,7 +24,7 @@ pub(crate) fn cost_of(best: &Option<Best>) -> Option<u64>
 /// A number above exactly those values that are below the best cost, where there is one.
 pub(crate) fn most_of(best: &Option<Best>) -> u64
     ensures { (value : ℕ) → value ≤ 999999999999999999
-        → (value < result) ↔ IsCheaper value (spec.cost_of best.now) }
+        → (value < result) ↔ IsCheaper value (spec.best_cost_of best.now) }
 {
     match best {
         None => u64::MAX,

@@ -2,14 +2,14 @@
 
 ghost use Rattle.std.specs.Prelude.{◌≡◌, length, IfOk, IfSome, option_map, None};
 ghost use Rattle.pesp_nodes.specs.Problems.{ArePairs};
-ghost use Rattle.pesp_queue.specs.Entries.{ItemsDiffer};
-ghost use Rattle.pesp_queue.specs.Queues.{all_of};
+ghost use Rattle.pesp_tree.specs.Entries.{ItemsDiffer};
+ghost use Rattle.pesp_tree.specs.Queues.{all_of};
 ghost use Rattle.pesp_network.specs.Networks.{KeepsNetLimits};
-ghost use Rattle.pesp_machine.specs.States.{opening, best_cost, least, IsAtMost, TellsLeaf};
-ghost use Rattle.pesp_machine.specs.Reached.{IsOrderly};
-ghost use Rattle.pesp_machine.specs.Events.{Lends, Gives, Recalls, Offers};
-ghost use Rattle.pesp_machine.specs.Adopting.{Adopts, LendsAll};
-ghost use Rattle.pesp_machine.specs.Certificates.{IsProblemOf, IsCertificateOf};
+ghost use Rattle.pesp_tree.specs.States.{opening, best_cost, least, IsAtMost, TellsLeaf};
+ghost use Rattle.pesp_tree.specs.Reached.{IsOrderly};
+ghost use Rattle.pesp_tree.specs.Events.{Lends, Gives, Recalls, Offers};
+ghost use Rattle.pesp_tree.specs.Adopting.{Adopts, LendsAll};
+ghost use Rattle.pesp_tree.specs.Certificates.{IsProblemOf, IsCertificateOf};
 ghost use Rattle.pesp_truth.specs.Certificates.{IsValid, least_of, cost_of};
 ghost use Rattle.pesp_board.specs.Lending.{LendsCuts, LendsFirst};
 ghost use Rattle.pesp_board.specs.OpenLeaves.{AreOpen};
@@ -25,11 +25,9 @@ use crate::replacement::take;
 use crate::slot::{Slot, lent_node};
 use crate::timetable::judge;
 use pesp_cert::Certificate;
-use pesp_machine::{GiveRefusal, Job, LendRefusal, Work};
 use pesp_nodes::{Pair, Problem};
 use pesp_problem::{Instance, Memory};
-use pesp_queue::Queue;
-use pesp_tree::WorkTree;
+use pesp_tree::{GiveRefusal, Job, LendRefusal, Queue, Work, WorkTree};
 use std::alloc::Global;
 use std::marker::Model;
 
@@ -45,8 +43,8 @@ pub struct Board {
 }
 
 impl Model for Board {
-    ghost use Rattle.pesp_machine.specs.Codes.{board_code};
-    ghost use Rattle.pesp_machine.specs.States.{BoardValue};
+    ghost use Rattle.pesp_tree.specs.EventCodes.{board_code};
+    ghost use Rattle.pesp_tree.specs.States.{BoardValue};
     ghost use Rattle.pesp_board.specs.Insides.{times_of, state_of, IsBoard};
 
     ghost Value = { BoardValue };

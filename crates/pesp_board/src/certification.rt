@@ -2,8 +2,8 @@
 
 ghost use Rattle.std.specs.Prelude.{◌≡◌, length, map, IfOk, IfSome};
 ghost use Rattle.std.specs.List.{zip};
-ghost use Rattle.pesp_truth.specs.Certificates.{line_of};
-ghost use Rattle.pesp_machine.specs.Certificates as spec;
+ghost use Rattle.pesp_truth.specs.Trees.{line_of};
+ghost use Rattle.pesp_tree.specs.Certificates as spec;
 ghost use Rattle.pesp_board.specs.Insides.{times_of};
 
 use crate::best::Best;

@@ -3,7 +3,7 @@
 ghost use Rattle.std.specs.Prelude.{◌≡◌, ◌+◌, ◌<◌, ◌≤◌, length, sum_by, MatchOption};
 ghost use Rattle.pesp_truth.specs.Trees.{EndLine};
 ghost use Rattle.pesp_tree.specs.Leaves.{leaf_of};
-ghost use Rattle.pesp_machine.specs.Limits.{pairs_in};
+ghost use Rattle.pesp_tree.specs.Limits.{pairs_in};
 ghost use Rattle.pesp_board.specs.Parts.{part_line, part_lines};
 ghost use Rattle.pesp_board.specs.Giving.{LendsOrRefuses, HasRoom, IsWorkable, MakesAt};
 
@@ -11,10 +11,9 @@ use crate::lend::bound_pairs;
 use crate::made_parts::make;
 use crate::part::{Part, parts_of};
 use crate::slot::Slot;
-use pesp_machine::{GiveRefusal, Work};
 use pesp_nodes::Problem;
 use pesp_problem::{MOST_LINES, MOST_PAIRS};
-use pesp_tree::{Leaf, WorkTree};
+use pesp_tree::{GiveRefusal, Leaf, Work, WorkTree};
 use std::alloc::Global;
 
 /// The node with whose leaf the number is lent; refused where it isn't lent.

@@ -1,19 +1,17 @@
 //! Whether the lines of a tree may stand in the place of a bound leaf.
 
 ghost use Rattle.std.specs.Prelude.{◌≡◌, ◌↔◌, ◌≤ℤ◌, map, IsTrue, IfSome, OnOk};
-ghost use Rattle.pesp_truth.specs.Trees.{Bound, Shut, Nothing, Gap, ByPropagation, EndLine, CutLine};
-ghost use Rattle.pesp_truth.specs.Certificates.{line_of};
+ghost use Rattle.pesp_truth.specs.Trees.{Bound, Shut, Nothing, Gap, ByPropagation, EndLine, CutLine, line_of};
 ghost use Rattle.pesp_nodes.specs.Problems.{IsNodeOf};
 ghost use Rattle.pesp_board.specs.Parts.{part_line};
-ghost use Rattle.pesp_board.specs.Grafting.{MakesPartOf, AreReached, IsJudged, after_first, StandsFirst};
+ghost use Rattle.pesp_board.specs.Grafting.{MakesPartOf, AreReached, AreJudgedParts, after_first, StandsFirst};
 
 use crate::made_parts::{bound, closed, copy_of, is_gap, judged, leaves_both};
 use crate::part::Part;
 use crate::shut_node::is_shut_by_propagation;
-use pesp_machine::GiveRefusal;
 use pesp_nodes::{Node, NodeWalk, Problem};
 use pesp_problem::{Cut, Memory, Pair};
-use pesp_tree::Leaf;
+use pesp_tree::{GiveRefusal, Leaf};
 use pesp_truth::TreeLine;
 use std::alloc::Global;
 
@@ -168,7 +166,7 @@ pub(crate) fn judge_lines(
     lines: &[TreeLine],
 ) -> Result<Vec<Part>, GiveRefusal>
     requires { AreReached problem.now walk.old }
-    ensures { IsJudged problem.now worth walk.old (map line_of lines.now) result }
+    ensures { AreJudgedParts problem.now worth walk.old (map line_of lines.now) result }
 {
     problem.keeps_limits();
     let mut parts = Vec::new(alloc);

@@ -1,21 +1,19 @@
 //! A waiting leaf is lent.
 
 ghost use Rattle.std.specs.Prelude.{◌≡◌, ◌<◌, ◌↔◌, IsTrue, length, option_copied};
-ghost use Rattle.pesp_machine.specs.Events.{IsCheaper};
-ghost use Rattle.pesp_board.specs.Insides.{cost_of};
+ghost use Rattle.pesp_tree.specs.Events.{IsCheaper};
+ghost use Rattle.pesp_board.specs.Insides.{best_cost_of};
 ghost use Rattle.pesp_board.specs.Lending.{HasJob, HasPairs, LendsEntry};
 
 use crate::best::Best;
 use crate::slot::Slot;
-use pesp_machine::{Job, LendRefusal};
 use pesp_problem::{MOST_LINES, Pair};
-use pesp_queue::Entry;
-use pesp_tree::{Leaf, WorkTree};
+use pesp_tree::{Entry, Job, Leaf, LendRefusal, WorkTree};
 use std::alloc::Global;
 
 /// Whether a value is below the best cost, where there is one.
 pub(crate) fn is_cheaper(value: u64, best: &Option<Best>) -> bool
-    ensures { IsTrue result ↔ IsCheaper value (cost_of best.now) }
+    ensures { IsTrue result ↔ IsCheaper value (best_cost_of best.now) }
 {
     match best {
         None => true,

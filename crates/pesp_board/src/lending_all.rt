@@ -2,17 +2,15 @@
 
 ghost use Rattle.std.specs.Prelude.{◌≡◌, ◌<◌, ◌≤◌, ◌+◌, ◌++◌, ◌↔◌, IsTrue, length, map, All, IfOk, vec_len, vec_capacity};
 ghost use Rattle.pesp_tree.specs.WorkTrees.{path_to};
-ghost use Rattle.pesp_machine.specs.Adopting.{AreNumbered};
+ghost use Rattle.pesp_tree.specs.Adopting.{AreNumbered};
 ghost use Rattle.pesp_board.specs.declared.slot.Slot.TheVariants.{Lent as LentSlot};
 ghost use Rattle.pesp_board.specs.LendingAll.{WaitsCheaper, AreWaitingOf, AreOpenNodes, LendsNodes, ParksOpen};
 
 use crate::best::Best;
 use crate::lend::is_cheaper;
 use crate::slot::Slot;
-use pesp_machine::{Job, LendRefusal};
 use pesp_problem::{MOST_LINES, Memory};
-use pesp_queue::Queue;
-use pesp_tree::WorkTree;
+use pesp_tree::{Job, LendRefusal, Queue, WorkTree};
 use std::alloc::Global;
 
 /// Whether a node waits with a value below the best cost.

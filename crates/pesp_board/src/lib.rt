@@ -19,5 +19,5 @@ mod timetable;
 
 pub use along::node_along;
 pub use board::Board;
-pub use pesp_machine::{GiveRefusal, Job, LendRefusal, Work};
+pub use pesp_tree::{GiveRefusal, Job, LendRefusal, Work};
 pub use shut_node::is_shut_by_propagation;

@@ -6,12 +6,12 @@ ghost use Rattle.pesp_problem.specs.Walks.{Names};
 ghost use Rattle.pesp_problem.specs.Nodes as spec;
 ghost use Rattle.pesp_problem.specs.Nodes.{part, offsets_left, LeavesBoth};
 ghost use Rattle.pesp_truth.specs.Trees.{Bound, ByGap, CutExists};
-ghost use Rattle.pesp_nodes.specs.Problems.{net_of, IsNodeOf, IsCutOf, ArePairs};
+ghost use Rattle.pesp_nodes.specs.Problems.{problem_net, IsNodeOf, IsCutOf, ArePairs};
 ghost use Rattle.pesp_tree.specs.Leaves.{leaf_of};
-ghost use Rattle.pesp_machine.specs.declared.work.Work.TheVariants as works;
-ghost use Rattle.pesp_machine.specs.Leaves.{told};
-ghost use Rattle.pesp_machine.specs.States.{node_at};
-ghost use Rattle.pesp_machine.specs.Events.{Uses, Keeps, MayShut};
+ghost use Rattle.pesp_tree.specs.declared.work.Work.TheVariants as works;
+ghost use Rattle.pesp_tree.specs.BoardLeaves.{told};
+ghost use Rattle.pesp_tree.specs.States.{node_at};
+ghost use Rattle.pesp_tree.specs.Events.{Uses, Keeps, MayShut};
 ghost use Rattle.pesp_board.specs.Parts.{IsValued};
 ghost use Rattle.pesp_board.specs.Grafting.{IsReached};
 ghost use Rattle.pesp_board.specs.Giving.{AreCuts, HaveValue, MakesOf};
@@ -20,10 +20,9 @@ use crate::along::node_along;
 use crate::grafts::judge_lines;
 use crate::part::{Made, Valued};
 use crate::shut_node::is_shut_by_propagation;
-use pesp_machine::{GiveRefusal, Work};
 use pesp_nodes::{Node, NodeWalk, Problem, are_pairs, leaf_value, offset_range};
 use pesp_problem::{Cut, Memory, Pair, Pairs, Side};
-use pesp_tree::Leaf;
+use pesp_tree::{GiveRefusal, Leaf, Work};
 use pesp_truth::TreeLine;
 use std::alloc::Global;
 
@@ -160,7 +159,7 @@ fn splits(range: &(i64, i64), k: &i64) -> bool
 pub(crate) fn leaves_both(problem: &Problem, node: &Node, cut: Cut) -> bool
     requires { IsNodeOf problem.now node.now }
     ensures { IsTrue result
-        ↔ (CutExists (net_of problem.now) problem.now.table cut × LeavesBoth node.now cut) }
+        ↔ (CutExists (problem_net problem.now) problem.now.table cut × LeavesBoth node.now cut) }
 {
     match cut {
         Cut::Slack { row, k } => {
@@ -183,11 +182,11 @@ pub(crate) fn leaves_both(problem: &Problem, node: &Node, cut: Cut) -> bool
 fn first_gap(problem: &Problem, node: &Node, pairs: &[Pair]) -> u32
     requires node { IsNodeOf problem.now node.now }
     requires pairs { ArePairs (length problem.now.table) pairs.now }
-    requires none { spec.leaf_value (net_of problem.now) problem.now.table node.now pairs.now true
+    requires none { spec.leaf_value (problem_net problem.now) problem.now.table node.now pairs.now true
         ≡ None }
     ensures uses { Uses pairs.now result }
     ensures gap { IsNone
-        (offsets_left (net_of problem.now) problem.now.table node.now (result - 1)) }
+        (offsets_left (problem_net problem.now) problem.now.table node.now (result - 1)) }
 {
     for pair in pairs {
         if offset_range(problem, node, pair.cycle).is_none() {

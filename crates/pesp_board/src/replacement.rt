@@ -5,16 +5,15 @@ ghost use Rattle.std.specs.List.Sorted.{IsPermutation};
 ghost use Rattle.pesp_problem.specs.declared.limits.TheConstants.{MOST_LINES};
 ghost use Rattle.pesp_truth.specs.Trees.{are_trees};
 ghost use Rattle.pesp_tree.specs.WorkTrees.{leaf_at, with_branch, IsWhole};
-ghost use Rattle.pesp_queue.specs.Entries.{HasItem};
-ghost use Rattle.pesp_queue.specs.Queues.{all_of, KeepsLimits, KeepsRoom};
+ghost use Rattle.pesp_tree.specs.Entries.{HasItem};
+ghost use Rattle.pesp_tree.specs.Queues.{all_of, QueueKeepsLimits, KeepsRoom};
 ghost use Rattle.pesp_board.specs.Parts.{part_lines};
-ghost use Rattle.pesp_board.specs.Growing.{waits, blank, part_value, with_part, next, grown, news, Grows, AreReady, IsPlanted};
+ghost use Rattle.pesp_board.specs.Growing.{waits, blank_leaf, part_value, with_part, next, with_parts, news, HasRoomForPart, AreReady, IsPlanted};
 ghost use Rattle.pesp_board.specs.Giving.{IsSameQueue};
 
 use crate::part::{Part, Valued};
 use pesp_problem::{Cut, Memory};
-use pesp_queue::Queue;
-use pesp_tree::{Leaf, WorkTree};
+use pesp_tree::{Leaf, Queue, WorkTree};
 use std::alloc::Global;
 
 /// Lets a node wait with its value, where it has one.
@@ -48,7 +47,7 @@ fn plant_cut(tree: &mut WorkTree, waiting: &mut Vec<u32>, node: u32, cut: Cut)
     requires room { length tree.old.leaves + 2 ≤ tree.old.room }
     requires few { length tree.old.leaves + 2 ≤ MOST_LINES }
     requires memory { vec_len waiting.old + 2 ≤ vec_capacity waiting.old }
-    ensures tree { tree.new ≡ with_branch tree.old node cut blank blank }
+    ensures tree { tree.new ≡ with_branch tree.old node cut blank_leaf blank_leaf }
     ensures whole { IsWhole tree.new }
     ensures nodes { waiting.new.items
         ≡ (waiting.old.items ++ (length tree.old.leaves + 1) ∷ []) ++ length tree.old.leaves ∷ [] }
@@ -63,7 +62,7 @@ fn plant_cut(tree: &mut WorkTree, waiting: &mut Vec<u32>, node: u32, cut: Cut)
 /// A node gets its part. Takes no memory.
 fn plant_part(tree: &mut WorkTree, queue: &mut Queue, waiting: &mut Vec<u32>, node: u32, part: Part)
     requires leaf { IsSome (leaf_at tree.old node) }
-    requires grows { Grows tree.old part }
+    requires grows { HasRoomForPart tree.old part }
     requires memory { vec_len waiting.old + 2 ≤ vec_capacity waiting.old }
     requires number { node < queue.old.numbers }
     requires room { length (all_of queue.old) < queue.old.room }
@@ -96,7 +95,7 @@ pub(crate) fn plant(
 )
     requires ready { AreReady tree.old queue.old (reverse waiting.old.items) (reverse parts.items) }
     requires memory { length parts.items + 1 ≤ vec_capacity waiting.old }
-    ensures tree { tree.new ≡ grown tree.old (reverse waiting.old.items) (reverse parts.items) }
+    ensures tree { tree.new ≡ with_parts tree.old (reverse waiting.old.items) (reverse parts.items) }
     ensures whole { IsWhole tree.new }
     ensures waiting { IsPermutation (news tree.old (reverse waiting.old.items) (reverse parts.items)
         ++ queue.old.waiting) queue.new.waiting }
@@ -113,7 +112,7 @@ pub(crate) fn plant(
 
 /// A queue keeps its limits.
 fn keeps_limits(queue: &Queue)
-    ensures { KeepsLimits queue.now }
+    ensures { QueueKeepsLimits queue.now }
 {
     queue.first();
 }

@@ -3,7 +3,7 @@
 ghost use Rattle.std.specs.Prelude.{◌↔◌, IfOk, IsTrue};
 ghost use Rattle.pesp_truth.specs.Trees.{ByPropagation};
 ghost use Rattle.pesp_nodes.specs.Problems.{IsNodeOf};
-ghost use Rattle.pesp_machine.specs.Events.{MayShut};
+ghost use Rattle.pesp_tree.specs.Events.{MayShut};
 
 use pesp_nodes::{Node, Problem};
 use pesp_problem::Memory;

@@ -14,8 +14,8 @@ use Rattle.pesp_problem.specs.Forests.{own_row}
 use Rattle.pesp_problem.specs.Nodes.{Node, cycle_at, slack_range, offset_range, offset_part, flow, slack_part, leaf_value}
 use Rattle.pesp_problem.proofs.Integers.{mul-add, mul-neg, add-mul, zero-mul, sum_below-same, sum_below-le, sum_below-add, sum_below-zero, sum_below-single}
 use Rattle.pesp_problem.proofs.Walks.{step, step_same, step_other, net_count-cons, sum_along, net_count_sum}
-use Rattle.pesp_nets.proofs.Counts.{eq-true, eq-false}
-use Rattle.pesp_bound.specs.Differences.{over_pairs, AreMultipliers, own_flow}
+use Rattle.pesp_problem.proofs.Counts.{eq-true, eq-false}
+use Rattle.pesp_bound.specs.Differences.{over_pairs, AreCycleMultipliers, own_flow}
 use Rattle.pesp_problem.proofs.Ways.{back, net_count-append, net_count-one, net_count-back, leads_append, leads_back, all_back}
 use Rattle.pesp_bound.proofs.Owners.{none_or_some, InForest, plus_row, GoesBack, AreOwned}
 use Rattle.pesp_bound.proofs.Levels.{shift, bound, IsFixed}
@@ -357,7 +357,7 @@ total_is n node owner (s ∷ walk) =
 pub falls_is_nothing : (n : Net) (table : List (List SignedRow)) (node : Node) (owner : ℕ → ℕ)
     (walk : List SignedRow) (pairs : List Pair) → AreOwned n.arcs table owner → IsFixed n table node
     → Falls n node owner walk → All (λ (x : Pair). Names (length table) x.cycle) pairs
-    → AreMultipliers (length table) (own_flow table (net_count walk)) pairs
+    → AreCycleMultipliers (length table) (own_flow table (net_count walk)) pairs
     → IsSomeAnd (leaf_value n table node pairs false) (λ v. pos 0 <ℤ v)
 falls_is_nothing n table node owner walk pairs f fixed falls exist m =
     let count = length n.arcs in

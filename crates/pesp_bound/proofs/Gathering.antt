@@ -20,10 +20,10 @@ use Rattle.pesp_nodes.specs.declared.passages.Passage.{Passage}
 use Rattle.pesp_nodes.specs.Passages.{passages_at}
 use Rattle.pesp_nodes.specs.Offsets.{IsSmallOffset}
 use Rattle.pesp_nodes.specs.Problems.{IsPairOf, Rise}
-use Rattle.pesp_nets.proofs.Counts.{eq-true, eq-false, net_count_bound}
+use Rattle.pesp_problem.proofs.Counts.{eq-true, eq-false, net_count_bound}
 use Rattle.pesp_bound.specs.declared.edge.Edge.{Edge}
 use Rattle.pesp_bound.specs.Settling.{edge_at, no_edge}
-use Rattle.pesp_bound.specs.Differences.{last_owner, IsShift, shift_at, AreShifts, IsDemand, AreDemands, signed_at, no_signed, ArePassed, over_pairs, AreMultipliers}
+use Rattle.pesp_bound.specs.Differences.{last_owner, IsShift, shift_at, AreRowShifts, IsDemand, AreDemands, signed_at, no_signed, ArePassed, over_pairs, AreCycleMultipliers}
 
 at_end : {X : Type 0} (xs : List X) (x d : X) → get_or (xs ++ x ∷ []) (length xs) d ≡ x
 at_end xs x d = get_or-append_seam xs x [] d
@@ -164,15 +164,15 @@ small_counts count walk flows long short counts k d l =
 -- ---- shifts
 
 pub shifts_none : (n : Net) (table : List (List SignedRow)) (node : Node) (count : ℕ) (shifts : List (ℤ × ℤ))
-    → shifts ≡ replicate count (pos 0, pos 0) → length shifts ≡ count → AreShifts n table node 0 shifts
+    → shifts ≡ replicate count (pos 0, pos 0) → length shifts ≡ count → AreRowShifts n table node 0 shifts
 shifts_none n table node count shifts e long i l =
     inl (refl, ap (λ (x : List (ℤ × ℤ)). shift_at x i) e ∙ get_or-replicate count i (pos 0, pos 0) (pos 0, pos 0) (omega (arith, l, long)))
 
 -- the row with which the next cycle begins takes the offsets that are left to the cycle
 pub shifts_more : (n : Net) (table : List (List SignedRow)) (node : Node) (m place : ℕ) (left : ℤ × ℤ)
     (shifts : List (ℤ × ℤ)) → 1 ≤ own_row (cycle_at table m) → place ≡ own_row (cycle_at table m) - 1
-    → place < length shifts → offsets_left n table node m ≡ Some left → AreShifts n table node m shifts
-    → AreShifts n table node (m + 1) (set shifts place left)
+    → place < length shifts → offsets_left n table node m ≡ Some left → AreRowShifts n table node m shifts
+    → AreRowShifts n table node (m + 1) (set shifts place left)
 shifts_more n table node m place left shifts one is within e h i l =
     let next : last_owner table (m + 1) i ≡ last_owner table (suc m) i = ap (λ k. last_owner table k i) (add-one m) in
     elim (cases_eq i place) [
@@ -196,8 +196,8 @@ shifts_more n table node m place left shifts one is within e h i l =
     ]
 
 pub as_shifts : (n : Net) (table : List (List SignedRow)) (node : Node) (m : ℕ) (shifts : List (ℤ × ℤ)) (k : ℕ)
-    → m ≡ k → AreShifts n table node m shifts → AreShifts n table node k shifts
-as_shifts n table node m shifts k e h = subst (λ j. AreShifts n table node j shifts) e h
+    → m ≡ k → AreRowShifts n table node m shifts → AreRowShifts n table node k shifts
+as_shifts n table node m shifts k e h = subst (λ j. AreRowShifts n table node j shifts) e h
 
 pub small_set : (period : ℕ) (shifts : List (ℤ × ℤ)) (place : ℕ) (left : ℤ × ℤ)
     → All (λ (s : ℤ × ℤ). IsSmallOffset period s.0 × IsSmallOffset period s.1) shifts
@@ -232,7 +232,7 @@ sum_more n f = ap (λ (k : ℕ). sum_below k f) (add-one n)
 
 -- the pairs of the first n cycles
 pub record PairsTo (cycles : ℕ) (mult : ℕ → ℤ) (n : ℕ) (pairs : List Pair) : Type 0 where
-  pub mults : AreMultipliers n mult pairs
+  pub mults : AreCycleMultipliers n mult pairs
   pub each : All (IsPairOf cycles) pairs
   pub below : (i : ℕ) (d : Pair) → i < length pairs → (get_or pairs i d).cycle ≤ n
   pub rise : Rise pairs

@@ -10,7 +10,7 @@ use Rattle.pesp_problem.specs.Walks.{RowExists, start, finish, sign, net_count, 
 use Rattle.pesp_problem.specs.Nodes.{Node, cycle_at, slack_range, offset_range, offsets_left, SlacksIn, LieIn}
 use Rattle.pesp_problem.proofs.Integers.{mul-add, zero-mul, sum_below-same, sum_below-add}
 use Rattle.pesp_problem.proofs.Walks.{sum_along, rise, telescope, net_count_sum}
-use Rattle.pesp_nets.proofs.Counts.{eq-true, eq-false}
+use Rattle.pesp_problem.proofs.Counts.{eq-true, eq-false}
 use Rattle.pesp_bound.specs.Differences.{rise_bound}
 use Rattle.pesp_bound.proofs.Owners.{none_or_some, InForest, GoesBack, AreOwned, plus_row}
 

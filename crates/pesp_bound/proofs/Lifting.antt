@@ -7,8 +7,8 @@ use Rattle.std.proofs.lemmas.List.{length-replicate, drop-append-le, length-appe
 use Rattle.std.proofs.Math.Nat.{mul-le-mul_left}
 use Rattle.std.proofs.lemmas.Bool.Decides.{nat_tests}
 use Rattle.pesp_bound.specs.declared.edge.Edge.{Edge}
-use Rattle.pesp_bound.specs.Settling.{edge_at, at, AreWithin, Settles, GainsForEver, IsWay, gains, losses}
-use Rattle.pesp_bound.specs.Growing.{Grown, IsGrown}
+use Rattle.pesp_bound.specs.Settling.{edge_at, at, EdgesAreWithin, SettlesEdge, GainsForEver, IsEdgeWay, gains, losses}
+use Rattle.pesp_bound.specs.Growing.{LevelsGrown, LevelsAreGrown}
 
 eq-true : (a b : ℕ) → a ≡ b → (a == b) ≡ true
 eq-true a b e = grind (arith, nat_tests)
@@ -83,10 +83,10 @@ held_as edges h t x j i e k = subst (λ (y : ℕ). Held edges h t x y) (sym e) k
 held_at : (edges : List Edge) (h t : ℕ → ℕ) (x y i : ℕ) → x ≡ y → Held edges h t y i → Held edges h t x i
 held_at edges h t x y i e k = subst (λ (z : ℕ). Held edges h t z i) (sym e) k
 
-old_held : (edges : List Edge) (h by t : ℕ → ℕ) (now x : ℕ) → Grown edges h by t now → 0 < by x → Held edges h t x (by x - 1)
+old_held : (edges : List Edge) (h by t : ℕ → ℕ) (now x : ℕ) → LevelsGrown edges h by t now → 0 < by x → Held edges h t x (by x - 1)
 old_held edges h by t now x g b = record { from = g.from x b; holds = g.holds x b; strict = g.strict x b }
 
-all_held : (edges : List Edge) (old new by by2 t t2 : ℕ → ℕ) (now v k x : ℕ) → Grown edges old by t now
+all_held : (edges : List Edge) (old new by by2 t t2 : ℕ → ℕ) (now v k x : ℕ) → LevelsGrown edges old by t now
     → Rises old new t t2 now v → (edge_at edges k).start ≡ v
     → new v + (edge_at edges k).loss ≡ old (edge_at edges k).finish + (edge_at edges k).gain → by2 v ≡ k + 1
     → ((y : ℕ) → y ≢ v → by2 y ≡ by y) → 0 < by2 x → Held edges new t2 x (by2 x - 1)
@@ -101,9 +101,9 @@ all_held edges old new by by2 t t2 now v k x g r e is here others b =
     ]
 
 pub lifted : (edges : List Edge) (old new by by2 t t2 : ℕ → ℕ) (now v k : ℕ) → k < length edges
-    → Grown edges old by t now → Rises old new t t2 now v → (edge_at edges k).start ≡ v
+    → LevelsGrown edges old by t now → Rises old new t t2 now v → (edge_at edges k).start ≡ v
     → new v + (edge_at edges k).loss ≡ old (edge_at edges k).finish + (edge_at edges k).gain → by2 v ≡ k + 1
-    → ((y : ℕ) → y ≢ v → by2 y ≡ by y) → Grown edges new by2 t2 (now + 1)
+    → ((y : ℕ) → y ≢ v → by2 y ≡ by y) → LevelsGrown edges new by2 t2 (now + 1)
 lifted edges old new by by2 t t2 now v k l g r e is here others =
     let held = λ (x : ℕ) (b : 0 < by2 x). all_held edges old new by by2 t t2 now v k x g r e is here others b in
     record {
@@ -130,9 +130,9 @@ abbrev time_of : (ℕ → ℕ) → ℕ → ℕ → ℕ → ℕ
 time_of t now v x = if x == v then now + 1 else t x
 
 pub lifted_lists : (edges : List Edge) (level by : List ℕ) (k v new : ℕ) → k < length edges
-    → IsGrown edges level by → (edge_at edges k).start ≡ v → v < length level → v < length by → at level v < new
+    → LevelsAreGrown edges level by → (edge_at edges k).start ≡ v → v < length level → v < length by → at level v < new
     → new + (edge_at edges k).loss ≡ at level (edge_at edges k).finish + (edge_at edges k).gain
-    → IsGrown edges (set level v new) (set by v (k + 1))
+    → LevelsAreGrown edges (set level v new) (set by v (k + 1))
 lifted_lists edges level by k v new l g e in_level in_by above is =
     let t = g.0 in
     let now = g.1 in
@@ -158,7 +158,7 @@ sum_rises level v new l above = let s = sum_by-set (λ (x : ℕ). x) level v new
 
 -- the way goes from y to the current event, and its gains are known
 pub record Comes (edges : List Edge) (h t : ℕ → ℕ) (y : ℕ) (way : List ℕ) (cur : ℕ) : Type 0 where
-  pub leads : IsWay edges y way cur
+  pub leads : IsEdgeWay edges y way cur
   pub holds : h y + losses edges way ≤ h cur + gains edges way
   pub strict : t y ≤ t cur → h y + losses edges way + 1 ≤ h cur + gains edges way
 
@@ -170,15 +170,15 @@ unmarked place = count_by (λ x. x == 0) place
 pub record Climbed (edges : List Edge) (level by place way : List ℕ) (cur event : ℕ) : Type 0 where
   pub t : ℕ → ℕ
   pub now : ℕ
-  pub grown : Grown edges (at level) (at by) t now
+  pub grown : LevelsGrown edges (at level) (at by) t now
   pub few : length way + unmarked place ≤ length level
   pub marked : (y : ℕ) → 0 < at place y → at place y ≤ length way
   pub comes : (y : ℕ) → 0 < at place y → Comes edges (at level) t y (drop (at place y - 1) way) cur
-  pub high : (most : ℕ) → AreWithin (length level) most edges → length level * most < at level event
+  pub high : (most : ℕ) → EdgesAreWithin (length level) most edges → length level * most < at level event
       → unmarked place * most < at level cur
 
-pub IsWay-snoc : (edges : List Edge) (way : List ℕ) (a b k : ℕ) → IsWay edges a way b → k < length edges
-    → (edge_at edges k).start ≡ b → IsWay edges a (way ++ k ∷ []) (edge_at edges k).finish
+pub IsWay-snoc : (edges : List Edge) (way : List ℕ) (a b k : ℕ) → IsEdgeWay edges a way b → k < length edges
+    → (edge_at edges k).start ≡ b → IsEdgeWay edges a (way ++ k ∷ []) (edge_at edges k).finish
 IsWay-snoc edges [] a b k h l e = (l, e ∙ sym h, refl)
 IsWay-snoc edges (j ∷ way) a b k h l e = (h.0, h.1, IsWay-snoc edges way (edge_at edges j).finish b k h.2 l e)
 
@@ -191,7 +191,7 @@ losses-snoc edges [] k = omega arith
 losses-snoc edges (j ∷ way) k = omega (arith, losses-snoc edges way k)
 
 -- one edge on, from the current event
-pub comes_on : (edges : List Edge) (h by t : ℕ → ℕ) (now y cur : ℕ) (way : List ℕ) → Grown edges h by t now
+pub comes_on : (edges : List Edge) (h by t : ℕ → ℕ) (now y cur : ℕ) (way : List ℕ) → LevelsGrown edges h by t now
     → 0 < by cur → Comes edges h t y way cur → Comes edges h t y (way ++ (by cur - 1) ∷ [])
     (edge_at edges (by cur - 1)).finish
 comes_on edges h by t now y cur way g b c =
@@ -212,7 +212,7 @@ comes_on edges h by t now y cur way g b c =
           ];
     }
 
-pub comes_one : (edges : List Edge) (h by t : ℕ → ℕ) (now cur : ℕ) → Grown edges h by t now → 0 < by cur
+pub comes_one : (edges : List Edge) (h by t : ℕ → ℕ) (now cur : ℕ) → LevelsGrown edges h by t now → 0 < by cur
     → Comes edges h t cur ((by cur - 1) ∷ []) (edge_at edges (by cur - 1)).finish
 comes_one edges h by t now cur g b =
     let k = by cur - 1 in
@@ -297,7 +297,7 @@ climbs_on edges level by place way cur event c l e b =
           omega (arith, times, before, step, gain);
     }
 
-pub starts : (edges : List Edge) (level by place : List ℕ) (event : ℕ) → IsGrown edges level by
+pub starts : (edges : List Edge) (level by place : List ℕ) (event : ℕ) → LevelsAreGrown edges level by
     → ((y : ℕ) → at place y ≡ 0) → unmarked place ≤ length level → Climbed edges level by place [] event event
 starts edges level by place event g none few =
     record {
@@ -329,7 +329,7 @@ replicate_zero zero y = refl
 replicate_zero (suc n) zero = refl
 replicate_zero (suc n) (suc y) = replicate_zero n y
 
-pub starts_as : (edges : List Edge) (level by place way : List ℕ) (event : ℕ) → IsGrown edges level by
+pub starts_as : (edges : List Edge) (level by place way : List ℕ) (event : ℕ) → LevelsAreGrown edges level by
     → place ≡ replicate (length level) 0 → way ≡ [] → Climbed edges level by place way event event
 starts_as edges level by place way event g p w =
     subst (λ (z : List ℕ). Climbed edges level by place z event event) (sym w)
@@ -337,7 +337,7 @@ starts_as edges level by place way event g p w =
     ∙ replicate_zero (length level) y) (let few = count_by-le-length (λ (x : ℕ). x == 0) place in
     let size = ap length p ∙ length-replicate (length level) 0 in omega (arith, few, size)))
 
-pub grown_empty : (edges : List Edge) (n : ℕ) → IsGrown edges (replicate n 0) (replicate n 0)
+pub grown_empty : (edges : List Edge) (n : ℕ) → LevelsAreGrown edges (replicate n 0) (replicate n 0)
 grown_empty edges n = (
   λ x. 0,
   0,
@@ -351,9 +351,9 @@ grown_empty edges n = (
   },
 )
 
-pub grown_zeros : (edges : List Edge) (n : ℕ) (level by : List ℕ) → level ≡ replicate n 0 → by ≡ replicate n 0 → IsGrown edges level by
-grown_zeros edges n level by l b = subst (λ (x : List ℕ). IsGrown edges x by) (sym l)
-    (subst (λ (x : List ℕ). IsGrown edges (replicate n 0) x) (sym b) (grown_empty edges n))
+pub grown_zeros : (edges : List Edge) (n : ℕ) (level by : List ℕ) → level ≡ replicate n 0 → by ≡ replicate n 0 → LevelsAreGrown edges level by
+grown_zeros edges n level by l b = subst (λ (x : List ℕ). LevelsAreGrown edges x by) (sym l)
+    (subst (λ (x : List ℕ). LevelsAreGrown edges (replicate n 0) x) (sym b) (grown_empty edges n))
 
 pub low_zeros : (n limit : ℕ) (level : List ℕ) → level ≡ replicate n 0 → (x : ℕ) → at level x ≤ limit
 low_zeros n limit level l x = let z = ap (λ (y : List ℕ). at y x) l ∙ replicate_zero n x in omega (arith, z)
@@ -371,7 +371,7 @@ when_false A B b e m = subst (λ (x : Bool). MatchBool x A B) e m
 
 abbrev pub SoFar : List Edge → List ℕ → List ℕ → Option ℕ → ℕ → Type 0
 SoFar edges initial level last k = MatchOption last
-    ((level ≡ initial) × ((j : ℕ) → j < k → Settles edges (at level) j))
+    ((level ≡ initial) × ((j : ℕ) → j < k → SettlesEdge edges (at level) j))
     (λ e. (e < length initial) × (sum initial < sum level))
 
 so_far_le : (edges : List Edge) (initial level : List ℕ) (last : Option ℕ) (k : ℕ)
@@ -384,17 +384,17 @@ pub so_far_lifts : (edges : List Edge) (initial old new : List ℕ) (last : Opti
     → SoFar edges initial new (Some e) (k + 1)
 so_far_lifts edges initial old new last k e h more l = let first = so_far_le edges initial old last k h in (l, omega (arith, first, more))
 
-below_next : (edges : List Edge) (level : List ℕ) (k j : ℕ) → ((j : ℕ) → j < k → Settles edges (at level) j)
-    → Settles edges (at level) k → j < k + 1 → Settles edges (at level) j
+below_next : (edges : List Edge) (level : List ℕ) (k j : ℕ) → ((j : ℕ) → j < k → SettlesEdge edges (at level) j)
+    → SettlesEdge edges (at level) k → j < k + 1 → SettlesEdge edges (at level) j
 below_next edges level k j h s l = below_more _ _ h s j l
 
 so_far_same : (edges : List Edge) (initial level : List ℕ) (last : Option ℕ) (k : ℕ)
-    → SoFar edges initial level last k → Settles edges (at level) k → SoFar edges initial level last (k + 1)
+    → SoFar edges initial level last k → SettlesEdge edges (at level) k → SoFar edges initial level last (k + 1)
 so_far_same edges initial level None k h s = (h.0, λ j l. below_next edges level k j h.1 s l)
 so_far_same edges initial level (Some e) k h s = h
 
 pub so_far_stays : (edges : List Edge) (initial old new : List ℕ) (last : Option ℕ) (k : ℕ)
-    → SoFar edges initial old last k → new ≡ old → Settles edges (at old) k → SoFar edges initial new last (k + 1)
+    → SoFar edges initial old last k → new ≡ old → SettlesEdge edges (at old) k → SoFar edges initial new last (k + 1)
 so_far_stays edges initial old new last k h e s =
     subst (λ (x : List ℕ). SoFar edges initial x last (k + 1)) (sym e) (so_far_same edges initial old last k h s)
 

@@ -11,7 +11,7 @@ use Rattle.pesp_problem.specs.Walks.{Names, RowExists, AreRows, IsWalk, Leads, n
 use Rattle.pesp_problem.specs.Forests.{HaveNoCycle, IsFundamental, AreFundamental, own_row}
 use Rattle.pesp_problem.specs.Nodes.{cycle_at}
 use Rattle.pesp_problem.proofs.Counting.{differ}
-use Rattle.pesp_nets.proofs.Counts.{eq-true, eq-false}
+use Rattle.pesp_problem.proofs.Counts.{eq-true, eq-false}
 use Rattle.pesp_bound.specs.Differences.{last_owner}
 
 pub none_or_some : (n : ℕ) → (n ≡ 0) ⊎ (0 < n)

@@ -16,12 +16,12 @@ use Rattle.pesp_problem.proofs.Integers.{sum_below-same, sum_below-single}
 use Rattle.pesp_network.specs.Networks.{arc_of_net, net_row_at, no_net_row, KeepsNetLimits}
 use Rattle.pesp_nodes.specs.declared.passages.Passage.{Passage}
 use Rattle.pesp_nodes.specs.Passages.{ArePassages, ArePassagesOf, passages_at, sum_over}
-use Rattle.pesp_nodes.specs.Problems.{ProblemValue, net_of, ArePairs}
-use Rattle.pesp_nets.proofs.Counts.{eq-true, eq-false}
+use Rattle.pesp_nodes.specs.Problems.{ProblemValue, problem_net, ArePairs}
+use Rattle.pesp_problem.proofs.Counts.{eq-true, eq-false}
 use Rattle.pesp_bound.specs.declared.edge.Edge.{Edge}
-use Rattle.pesp_bound.specs.Settling.{edge_at, AreWithin, AreSettled, IsWay, GainsForEver, gains, losses}
+use Rattle.pesp_bound.specs.Settling.{edge_at, EdgesAreWithin, AreSettled, IsEdgeWay, GainsForEver, gains, losses}
 use Rattle.pesp_bound.specs.Decided.{IsDecided}
-use Rattle.pesp_bound.specs.Differences.{IsShift, shift_at, rise_bound, bound_of, IsDemand, AreDemands, IsSystem, signed_at, no_signed, ArePassed, walk_along, own_flow, AreMultipliers}
+use Rattle.pesp_bound.specs.Differences.{IsShift, shift_at, rise_bound, bound_of, IsDemand, AreDemands, IsSystem, signed_at, no_signed, ArePassed, walk_along, own_flow, AreCycleMultipliers}
 use Rattle.pesp_bound.proofs.Gathering.{own_row_names, small_counts}
 use Rattle.pesp_bound.proofs.Owners.{AreOwned, are_owned, owner_of}
 use Rattle.pesp_bound.proofs.Levels.{shift, bound, AreLevels, AreIdle, IsFixed, shift_free, shift_own, levels_give_slacks}
@@ -55,15 +55,15 @@ one_left z w a b e h = subst (λ x. (range_or_none (int_max z a) (int_min x b) �
     → range_or_none (int_max z a) (int_min x b) ≡ Some (both z)) e
     (λ k. one_left_by z a b (int_le (int_max z a) (int_min z b)) refl k) h
 
-pub length_arcs : (p : ProblemValue) → length (net_of p).arcs ≡ length p.network.rows
+pub length_arcs : (p : ProblemValue) → length (problem_net p).arcs ≡ length p.network.rows
 length_arcs p = length-map p.network.rows arc_of_net
 
-fixed_of : (p : ProblemValue) (node : Node) → IsDecided p node → IsFixed (net_of p) p.table node
+fixed_of : (p : ProblemValue) (node : Node) → IsDecided p node → IsFixed (problem_net p) p.table node
 fixed_of p node d = record {
   slacks = λ i l. d.slacks i (omega (arith, l, length_arcs p));
   offsets = d.offsets;
   left = λ c l.
-      let bounds = odijk_range (net_of p) node.slacks (cycle_at p.table c) in
+      let bounds = odijk_range (problem_net p) node.slacks (cycle_at p.table c) in
       one_left (offset_range node.offsets c).0 (offset_range node.offsets c).1 bounds.0 bounds.1 (d.offsets c l) (d.left c l);
 }
 
@@ -138,10 +138,10 @@ end_below false tail head events h k = k
 
 -- the edges of a system lie between the network's events
 pub within_of : (p : ProblemValue) (node : Node) (rows : List SignedRow) (edges : List Edge)
-    → KeepsNetLimits p.network → IsSystem (net_of p) p.table node rows edges
-    → AreWithin p.network.events 10300001030000 edges
+    → KeepsNetLimits p.network → IsSystem (problem_net p) p.table node rows edges
+    → EdgesAreWithin p.network.events 10300001030000 edges
 within_of p node rows edges limits y k l =
-    let n = net_of p in
+    let n = problem_net p in
     let long = y.demands.long in
     let in_rows : k < length rows = omega (arith, l, long) in
     let s = signed_at rows k in
@@ -186,10 +186,10 @@ settled_levels n table node rows edges h fixed f y settled s names some =
 
 -- a decided node's levels don't settle
 pub not_settled : (p : ProblemValue) (node : Node) (rows : List SignedRow) (edges : List Edge) (h : ℕ → ℕ)
-    → HaveNoCycle (net_of p).arcs p.network.forest → IsSystem (net_of p) p.table node rows edges → IsDecided p node
+    → HaveNoCycle (problem_net p).arcs p.network.forest → IsSystem (problem_net p) p.table node rows edges → IsDecided p node
     → AreSettled edges h → ⊥
 not_settled p node rows edges h none y d settled =
-    let n = net_of p in
+    let n = problem_net p in
     let f = are_owned n.arcs p.network.forest p.table d.fundamental none in
     let fixed = fixed_of p node d in
     let levels = settled_levels n p.table node rows edges h fixed f y settled in
@@ -209,14 +209,14 @@ walk_exists n by_row rows (k ∷ way) long h w =
     (walk_exists n by_row rows way long h (λ i d l. w (suc i) d (omega arith)))
 
 pub way_places : (edges : List Edge) (count : ℕ) (way : List ℕ) (a b : ℕ) → length edges ≡ count
-    → IsWay edges a way b → All (λ (k : ℕ). k < count) way
+    → IsEdgeWay edges a way b → All (λ (k : ℕ). k < count) way
 way_places edges count [] a b e w = All-nil (λ (k : ℕ). k < count)
 way_places edges count (k ∷ way) a b e w = let l = w.0 in
     All-cons (λ (j : ℕ). j < count) k way (omega (arith, l, e))
     (way_places edges count way (edge_at edges k).finish b e w.2)
 
 way_leads : (n : Net) (slacks : List (ℕ × ℕ)) (shifts : List (ℤ × ℤ)) (rows : List SignedRow) (edges : List Edge)
-    (way : List ℕ) (a b : ℕ) → AreDemands n slacks shifts rows edges → IsWay edges a way b
+    (way : List ℕ) (a b : ℕ) → AreDemands n slacks shifts rows edges → IsEdgeWay edges a way b
     → Leads n.arcs a (walk_along rows way) b
 way_leads n slacks shifts rows edges [] a b e w = w
 way_leads n slacks shifts rows edges (k ∷ way) a b e w =
@@ -230,7 +230,7 @@ way_leads n slacks shifts rows edges (k ∷ way) a b e w =
 
 way_total : (n : Net) (table : List (List SignedRow)) (node : Node) (rows : List SignedRow) (edges : List Edge)
     (way : List ℕ) (a b : ℕ) → IsFixed n table node → AreOwned n.arcs table (owner_of table)
-    → IsSystem n table node rows edges → IsWay edges a way b
+    → IsSystem n table node rows edges → IsEdgeWay edges a way b
     → pos (losses edges way) ≡ pos (gains edges way) +ℤ total n node (owner_of table) (walk_along rows way)
 way_total n table node rows edges [] a b fixed f y w = omega (arith, ints)
 way_total n table node rows edges (k ∷ way) a b fixed f y w =
@@ -261,26 +261,26 @@ counted_as count rows rows2 way way2 flows r w h i l = h i l
     ∙ ap (λ (x : List ℕ). net_count (walk_along rows x) i) w
 
 pub mults_as : (table table2 : List (List SignedRow)) (flows flows2 : List ℤ) (pairs : List Pair) → table2 ≡ table
-    → flows2 ≡ flows → AreMultipliers (length table2)
+    → flows2 ≡ flows → AreCycleMultipliers (length table2)
     (own_flow table2 (λ i. slice_index_or flows2 i (pos 0))) pairs
-    → AreMultipliers (length table) (own_flow table (λ i. slice_index_or flows i (pos 0))) pairs
+    → AreCycleMultipliers (length table) (own_flow table (λ i. slice_index_or flows i (pos 0))) pairs
 mults_as table table2 flows flows2 pairs t f h =
-    subst (λ (x : List ℤ). AreMultipliers (length table) (own_flow table (λ i. slice_index_or x i (pos 0))) pairs)
-    f (subst (λ (x : List (List SignedRow)). AreMultipliers (length x)
+    subst (λ (x : List ℤ). AreCycleMultipliers (length table) (own_flow table (λ i. slice_index_or x i (pos 0))) pairs)
+    f (subst (λ (x : List (List SignedRow)). AreCycleMultipliers (length x)
     (own_flow x (λ i. slice_index_or flows2 i (pos 0))) pairs) t h)
 
 -- each cycle of a table of closed walks begins with a row that exists
 pub own_rows : (p : ProblemValue) (count : ℕ) (table : List (List SignedRow)) → table ≡ p.table
-    → count ≡ length p.network.rows → All (IsWalk (net_of p).arcs) p.table
+    → count ≡ length p.network.rows → All (IsWalk (problem_net p).arcs) p.table
     → All (λ (walk : List SignedRow). Names count (own_row walk)) table
 own_rows p count table e c closed = subst (λ (t : List (List SignedRow)).
     All (λ (walk : List SignedRow). Names count (own_row walk)) t) (sym e)
-    (λ k d l. let names = own_row_names (net_of p).arcs (slice_index_or p.table k d) (closed k d l) in
+    (λ k d l. let names = own_row_names (problem_net p).arcs (slice_index_or p.table k d) (closed k d l) in
     (names.0, omega (arith, names, c, length_arcs p)))
 
 -- the rows of a system exist
 pub rows_exist : (p : ProblemValue) (node : Node) (rows list : List SignedRow) (edges : List Edge) (count : ℕ)
-    → list ≡ rows → count ≡ length p.network.rows → IsSystem (net_of p) p.table node rows edges
+    → list ≡ rows → count ≡ length p.network.rows → IsSystem (problem_net p) p.table node rows edges
     → All (λ (s : SignedRow). Names count s.row) list
 rows_exist p node rows list edges count e c y =
     subst (λ (x : List SignedRow). All (λ (s : SignedRow). Names count s.row) x) (sym e)
@@ -289,14 +289,14 @@ rows_exist p node rows list edges count e c y =
 
 -- and gives pairs of value above 0
 pub gains_are_nothing : (p : ProblemValue) (node : Node) (rows : List SignedRow) (edges : List Edge) (way : List ℕ)
-    (flows : List ℤ) (pairs : List Pair) → HaveNoCycle (net_of p).arcs p.network.forest
-    → All (IsWalk (net_of p).arcs) p.table → IsSystem (net_of p) p.table node rows edges → GainsForEver edges way
-    → ((i : ℕ) → i < length (net_of p).arcs → slice_index_or flows i (pos 0) ≡ net_count (walk_along rows way) i)
-    → ArePairs (length p.table) pairs → AreMultipliers (length p.table)
+    (flows : List ℤ) (pairs : List Pair) → HaveNoCycle (problem_net p).arcs p.network.forest
+    → All (IsWalk (problem_net p).arcs) p.table → IsSystem (problem_net p) p.table node rows edges → GainsForEver edges way
+    → ((i : ℕ) → i < length (problem_net p).arcs → slice_index_or flows i (pos 0) ≡ net_count (walk_along rows way) i)
+    → ArePairs (length p.table) pairs → AreCycleMultipliers (length p.table)
     (own_flow p.table (λ i. slice_index_or flows i (pos 0))) pairs → IsDecided p node
-    → IsSomeAnd (leaf_value (net_of p) p.table node pairs false) (λ v. pos 0 <ℤ v)
+    → IsSomeAnd (leaf_value (problem_net p) p.table node pairs false) (λ v. pos 0 <ℤ v)
 gains_are_nothing p node rows edges way flows pairs none closed y g counted are mults d =
-    let n = net_of p in
+    let n = problem_net p in
     let owner = owner_of p.table in
     let walk = walk_along rows way in
     let f = are_owned n.arcs p.network.forest p.table d.fundamental none in
@@ -309,7 +309,7 @@ gains_are_nothing p node rows edges way flows pairs none closed y g counted are 
       closes = way_leads n node.slacks y.shifts rows edges way g.0 g.0 y.demands g.1;
       falls = omega (arith, ints, all, more);
     } in
-    let turns : AreMultipliers (length p.table) (own_flow p.table (net_count walk)) pairs = λ term.
+    let turns : AreCycleMultipliers (length p.table) (own_flow p.table (net_count walk)) pairs = λ term.
     mults term
     ∙ sum_below-same (length p.table) (λ c. own_flow p.table (λ i. slice_index_or flows i (pos 0)) c *ℤ term c)
     (λ c. own_flow p.table (net_count walk) c *ℤ term c)

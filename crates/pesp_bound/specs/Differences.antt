@@ -28,8 +28,8 @@ abbrev pub shift_at : List (ℤ × ℤ) → ℕ → ℤ × ℤ
 shift_at shifts i = slice_index_or shifts i (pos 0, pos 0)
 
 -- the shifts of the rows, as far as the first m cycles own them
-abbrev pub AreShifts : Net → List (List SignedRow) → Node → ℕ → List (ℤ × ℤ) → Type 0
-AreShifts n table node m shifts = (i : ℕ) → i < length shifts → IsShift n table node (last_owner table m i) (shift_at shifts i)
+abbrev pub AreRowShifts : Net → List (List SignedRow) → Node → ℕ → List (ℤ × ℤ) → Type 0
+AreRowShifts n table node m shifts = (i : ℕ) → i < length shifts → IsShift n table node (last_owner table m i) (shift_at shifts i)
 
 -- the most by which levels may rise from a row's tail to its head: its greatest duration less so many periods; and from
 -- its head to its tail: so many periods less its least duration
@@ -74,7 +74,7 @@ pub record IsSystem (n : Net) (table : List (List SignedRow)) (node : Node) (row
   pub shifts : List (ℤ × ℤ)
   pub by_row : List (List Passage)
   pub long : length shifts ≡ length n.arcs
-  pub are_shifts : AreShifts n table node (length table) shifts
+  pub are_shifts : AreRowShifts n table node (length table) shifts
   pub passages : ArePassages (length n.arcs) (length table) table by_row
   pub passed : ArePassed by_row (length by_row) rows
   pub demands : AreDemands n node.slacks shifts rows edges
@@ -93,5 +93,5 @@ over_pairs [] term = pos 0
 over_pairs (pair ∷ pairs) term = pair.mult *ℤ term (pair.cycle - 1) +ℤ over_pairs pairs term
 
 -- the pairs give the cycles at the places below n these multipliers
-abbrev pub AreMultipliers : ℕ → (ℕ → ℤ) → List Pair → Type 0
-AreMultipliers n mult pairs = (term : ℕ → ℤ) → over_pairs pairs term ≡ sum_below n (λ c. mult c *ℤ term c)
+abbrev pub AreCycleMultipliers : ℕ → (ℕ → ℤ) → List Pair → Type 0
+AreCycleMultipliers n mult pairs = (term : ℕ → ℤ) → over_pairs pairs term ≡ sum_below n (λ c. mult c *ℤ term c)

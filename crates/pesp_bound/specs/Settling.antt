@@ -17,22 +17,22 @@ abbrev pub at : List ℕ → ℕ → ℕ
 at xs i = slice_index xs i
 
 -- edges between so many events, with gains of at most so much
-abbrev pub AreWithin : ℕ → ℕ → List Edge → Type 0
-AreWithin events most edges = (k : ℕ) → k < length edges
+abbrev pub EdgesAreWithin : ℕ → ℕ → List Edge → Type 0
+EdgesAreWithin events most edges = (k : ℕ) → k < length edges
     → ((edge_at edges k).start < events) × ((edge_at edges k).finish < events) × ((edge_at edges k).gain ≤ most)
 
 -- the start is no lower than the edge demands
-abbrev pub Settles : List Edge → (ℕ → ℕ) → ℕ → Type 0
-Settles edges h k = h (edge_at edges k).finish + (edge_at edges k).gain ≤ h (edge_at edges k).start + (edge_at edges k).loss
+abbrev pub SettlesEdge : List Edge → (ℕ → ℕ) → ℕ → Type 0
+SettlesEdge edges h k = h (edge_at edges k).finish + (edge_at edges k).gain ≤ h (edge_at edges k).start + (edge_at edges k).loss
 
 -- the levels settle each edge
 abbrev pub AreSettled : List Edge → (ℕ → ℕ) → Type 0
-AreSettled edges h = (k : ℕ) → k < length edges → Settles edges h k
+AreSettled edges h = (k : ℕ) → k < length edges → SettlesEdge edges h k
 
 -- edges, by their places, that lead from event a to event b
-abbrev pub IsWay : List Edge → ℕ → List ℕ → ℕ → Type 0
-IsWay edges a [] b = a ≡ b
-IsWay edges a (k ∷ way) b = (k < length edges) × ((edge_at edges k).start ≡ a) × IsWay edges (edge_at edges k).finish way b
+abbrev pub IsEdgeWay : List Edge → ℕ → List ℕ → ℕ → Type 0
+IsEdgeWay edges a [] b = a ≡ b
+IsEdgeWay edges a (k ∷ way) b = (k < length edges) × ((edge_at edges k).start ≡ a) × IsEdgeWay edges (edge_at edges k).finish way b
 
 -- what the edges of a way gain in all
 abbrev pub gains : List Edge → List ℕ → ℕ
@@ -46,9 +46,9 @@ losses edges (k ∷ way) = (edge_at edges k).loss + losses edges way
 
 -- a closed way that gains more than it loses
 abbrev pub GainsForEver : List Edge → List ℕ → Type 0
-GainsForEver edges way = (a : ℕ) × IsWay edges a way a × (losses edges way < gains edges way)
+GainsForEver edges way = (a : ℕ) × IsEdgeWay edges a way a × (losses edges way < gains edges way)
 
 -- a level for each event that settles all edges, or a closed way of at most so many edges that gains for ever
-abbrev pub IsOutcome : List Edge → ℕ → Outcome → Type 0
-IsOutcome edges events (Levels level) = (length level.items ≡ events) × AreSettled edges (at level.items)
-IsOutcome edges events (Gains way) = GainsForEver edges way.items × (length way.items ≤ events)
+abbrev pub IsLevelOutcome : List Edge → ℕ → Outcome → Type 0
+IsLevelOutcome edges events (Levels level) = (length level.items ≡ events) × AreSettled edges (at level.items)
+IsLevelOutcome edges events (Gains way) = GainsForEver edges way.items × (length way.items ≤ events)

@@ -4,10 +4,10 @@ ghost use Rattle.std.specs.Prelude.{◌≡◌, ℕ, ◌⊎◌, ◌-◌, ◌<◌,
 ghost use Rattle.pesp_problem.specs.Nodes as spec;
 ghost use Rattle.pesp_bound.specs.Leaves.{HasNoGap, IsLeafOf, IsNoLess};
 ghost use Rattle.pesp_bound.specs.Decided.{IsDecided, IsNothing};
-ghost use Rattle.pesp_nodes.specs.Problems.{net_of, IsNodeOf, ArePairs, Rise};
+ghost use Rattle.pesp_nodes.specs.Problems.{problem_net, IsNodeOf, ArePairs, Rise};
 
 use crate::leaf::Leaf;
-use crate::proposal::{Proposal, propose};
+use crate::proposal::{LeafProposal, propose};
 use crate::system::closing_pairs;
 use pesp_nodes::{Node, Problem, are_pairs, first_gap, leaf_value};
 use pesp_problem::{Memory, Pair, Pairs};
@@ -17,7 +17,7 @@ use std::alloc::Global;
 fn judged(problem: &Problem, node: &Node, pairs: &[Pair], weighted: bool) -> Option<i128>
     requires { IsNodeOf problem.now node.now }
     ensures pairs { IfSome result (λ _. ArePairs (length problem.now.table) pairs.now) }
-    ensures value { IfSome result (λ v. spec.leaf_value (net_of problem.now) problem.now.table
+    ensures value { IfSome result (λ v. spec.leaf_value (problem_net problem.now) problem.now.table
         node.now pairs.now weighted ≡ Some v) }
 {
     if !are_pairs(pairs, problem.table().len()) {
@@ -50,7 +50,7 @@ fn better(best: Best, pairs: Vec<Pair>, value: Option<i128>) -> Best
 fn no_pairs(alloc: Global, problem: &Problem, node: &Node) -> Best
     requires { IsNodeOf problem.now node.now }
     ensures pairs { result.pairs.items ≡ [] }
-    ensures value { spec.leaf_value (net_of problem.now) problem.now.table node.now [] true
+    ensures value { spec.leaf_value (problem_net problem.now) problem.now.table node.now [] true
         ≡ Some result.value }
 {
     match leaf_value(problem, node, &[], true) {
@@ -83,7 +83,7 @@ fn closing_proof(
     requires { IsNodeOf problem.now node.now }
     ensures pairs { IfOk result (λ o. IfSome o (λ v. ArePairs (length problem.now.table) v.items)) }
     ensures value { IfOk result (λ o. IfSome o
-        (λ v. IsSomeAnd (spec.leaf_value (net_of problem.now) problem.now.table node.now v.items
+        (λ v. IsSomeAnd (spec.leaf_value (problem_net problem.now) problem.now.table node.now v.items
         false) (λ z. pos 0 <ℤ z))) }
     ensures decided { IfOk result (λ o. IsDecided problem.now node.now → IsSome o) }
 {
@@ -106,7 +106,7 @@ fn proposed_proof(
     requires { IsNodeOf problem.now node.now }
     ensures pairs { IfOk result (λ o. IfSome o (λ v. ArePairs (length problem.now.table) v.items)) }
     ensures value { IfOk result (λ o. IfSome o
-        (λ v. IsSomeAnd (spec.leaf_value (net_of problem.now) problem.now.table node.now v.items
+        (λ v. IsSomeAnd (spec.leaf_value (problem_net problem.now) problem.now.table node.now v.items
         false) (λ z. pos 0 <ℤ z))) }
 {
     let found = propose(alloc, problem, node, &[], false, rounds)?;
@@ -127,7 +127,7 @@ fn proof_of_nothing(
     requires { IsNodeOf problem.now node.now }
     ensures pairs { IfOk result (λ o. IfSome o (λ v. ArePairs (length problem.now.table) v.items)) }
     ensures value { IfOk result (λ o. IfSome o
-        (λ v. IsSomeAnd (spec.leaf_value (net_of problem.now) problem.now.table node.now v.items
+        (λ v. IsSomeAnd (spec.leaf_value (problem_net problem.now) problem.now.table node.now v.items
         false) (λ z. pos 0 <ℤ z))) }
     ensures decided { IfOk result (λ o. IsDecided problem.now node.now → IsSome o) }
 {
@@ -139,11 +139,11 @@ fn proof_of_nothing(
 }
 
 /// Whether what is proposed has a value above 0 without weights.
-fn is_endless(problem: &Problem, node: &Node, found: &Proposal) -> bool
+fn is_endless(problem: &Problem, node: &Node, found: &LeafProposal) -> bool
     requires { IsNodeOf problem.now node.now }
     ensures pairs { IsTrue result → ArePairs (length problem.now.table) found.now.pairs.items }
     ensures value { IsTrue result → IsSomeAnd
-        (spec.leaf_value (net_of problem.now) problem.now.table node.now found.now.pairs.items
+        (spec.leaf_value (problem_net problem.now) problem.now.table node.now found.now.pairs.items
         false) (λ z. pos 0 <ℤ z) }
 {
     if !found.endless {
@@ -166,11 +166,11 @@ fn best_pairs(
     requires node { IsNodeOf problem.now node.now }
     requires start { ArePairs (length problem.now.table) start.now }
     ensures pairs { IfOk result (λ b. ArePairs (length problem.now.table) b.pairs.items) }
-    ensures value { IfOk result (λ b. spec.leaf_value (net_of problem.now) problem.now.table
+    ensures value { IfOk result (λ b. spec.leaf_value (problem_net problem.now) problem.now.table
         node.now b.pairs.items true ≡ Some b.value) }
-    ensures none { IfOk result (λ b. IfSome (spec.leaf_value (net_of problem.now) problem.now.table
+    ensures none { IfOk result (λ b. IfSome (spec.leaf_value (problem_net problem.now) problem.now.table
         node.now [] true) (λ v. v ≤ℤ b.value)) }
-    ensures start { IfOk result (λ b. IfSome (spec.leaf_value (net_of problem.now) problem.now.table
+    ensures start { IfOk result (λ b. IfSome (spec.leaf_value (problem_net problem.now) problem.now.table
         node.now start.now true) (λ v. v ≤ℤ b.value)) }
 {
     let none = no_pairs(alloc, problem, node);

@@ -5,7 +5,7 @@ ghost use Rattle.pesp_problem.specs.declared.limits.TheConstants.{MOST_CYCLES, M
 ghost use Rattle.pesp_problem.specs.Walks.{Names, net_count};
 ghost use Rattle.pesp_problem.specs.Forests.{own_row};
 ghost use Rattle.pesp_nodes.specs.Problems.{ArePairs};
-ghost use Rattle.pesp_bound.specs.Differences.{walk_along, own_flow, AreMultipliers};
+ghost use Rattle.pesp_bound.specs.Differences.{walk_along, own_flow, AreCycleMultipliers};
 
 use crate::shifts::own_place;
 use pesp_nodes::count_rows;
@@ -69,7 +69,7 @@ pub fn pairs_of(alloc: Global, table: &[Walk], flows: &[i64]) -> Result<Vec<Pair
     requires own { All (λ walk. Names (length flows.now) (own_row walk)) table.now }
     requires small { All (λ z. unsigned_abs z ≤ 1000000000000) flows.now }
     ensures pairs { IfOk result (λ v. ArePairs (length table.now) v.items) }
-    ensures mults { IfOk result (λ v. AreMultipliers (length table.now)
+    ensures mults { IfOk result (λ v. AreCycleMultipliers (length table.now)
         (own_flow table.now (λ i. slice_index_or flows.now i (pos 0))) v.items) }
 {
     let mut pairs = Vec::new(alloc);

@@ -4,7 +4,7 @@
 ghost use Rattle.std.specs.Prelude.{◌≡◌, ℕ, ◌-◌, ◌<◌, ◌≤◌, ◌+ℤ◌, ◌*ℤ◌, length, pos, unsigned_abs, All, IfOk};
 ghost use Rattle.pesp_problem.specs.declared.limits.TheConstants.{MOST_LOWER, MOST_PERIOD, MOST_ROWS};
 ghost use Rattle.pesp_problem.specs.Walks.{Names, start, finish};
-ghost use Rattle.pesp_nets.specs.Ranges.{AreSlackEnds};
+ghost use Rattle.pesp_problem.specs.Ranges.{AreSlackEnds};
 ghost use Rattle.pesp_nodes.specs.Offsets.{AreArcs, IsSmallOffset};
 ghost use Rattle.pesp_bound.specs.Differences as spec;
 ghost use Rattle.pesp_bound.specs.Differences.{IsDemand, AreDemands, ArePassed};

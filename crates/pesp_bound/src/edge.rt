@@ -1,7 +1,7 @@
 //! Edges between events, whether levels meet their demands, and what becomes of these.
 
 ghost use Rattle.std.specs.Prelude.{◌≡◌, ℕ, ◌<◌, ◌↔◌, length, IsTrue};
-ghost use Rattle.pesp_bound.specs.Settling.{at, Settles, AreSettled};
+ghost use Rattle.pesp_bound.specs.Settling.{at, SettlesEdge, AreSettled};
 
 /// A demand on two events: the level at the start is to be at least the level at the finish, plus the gain, less the loss.
 #[derive(Clone, Copy, PartialEq, Eq)]
@@ -30,7 +30,7 @@ fn level_of(levels: &[usize], event: usize) -> usize
 /// Whether levels meet the demand of one edge.
 fn is_settled(edges: &[Edge], k: usize, levels: &[usize]) -> bool
     requires { k < length edges.now }
-    ensures { IsTrue result ↔ Settles edges.now (at levels.now) k }
+    ensures { IsTrue result ↔ SettlesEdge edges.now (at levels.now) k }
 {
     let edge = edges[k];
     let demanded = level_of(levels, edge.finish) as u128 + edge.gain as u128;

@@ -1,8 +1,8 @@
 //! Passes over all edges that lift levels, until they settle or a closed way is found (Bellman 1958; Ford 1956).
 
 ghost use Rattle.std.specs.Prelude.{◌≡◌, ◌≢◌, ℕ, ◌+◌, ◌*◌, ◌<◌, ◌≤◌, ◌^◌, length, sum, replicate, vec_len, IfOk, IfSome, IsSome, MatchBool, MatchOption};
-ghost use Rattle.pesp_bound.specs.Settling.{edge_at, at, AreWithin, Settles, AreSettled, GainsForEver, IsOutcome};
-ghost use Rattle.pesp_bound.specs.Growing.{IsGrown};
+ghost use Rattle.pesp_bound.specs.Settling.{edge_at, at, EdgesAreWithin, SettlesEdge, AreSettled, GainsForEver, IsLevelOutcome};
+ghost use Rattle.pesp_bound.specs.Growing.{LevelsAreGrown};
 
 use crate::edge::{Edge, Outcome};
 use std::alloc::{AllocError, Global};
@@ -21,10 +21,10 @@ fn lift(edges: &[Edge], k: usize, level: &mut [usize], by: &mut [usize]) -> bool
     requires finish { (edge_at edges.now k).finish < length level.old }
     requires events { length by.old ≡ length level.old }
     requires small { at level.old (edge_at edges.now k).finish + (edge_at edges.now k).gain < 2 ^ 64 }
-    requires grown { IsGrown edges.now level.old by.old }
-    ensures grown { IsGrown edges.now level.new by.new }
+    requires grown { LevelsAreGrown edges.now level.old by.old }
+    ensures grown { LevelsAreGrown edges.now level.new by.new }
     ensures cases { MatchBool result (sum level.old < sum level.new)
-        ((level.new ≡ level.old) × Settles edges.now (at level.old) k) }
+        ((level.new ≡ level.old) × SettlesEdge edges.now (at level.old) k) }
     ensures others { (x : ℕ) → x ≢ (edge_at edges.now k).start → at level.new x ≡ at level.old x }
     ensures here { (most : ℕ) → at level.old (edge_at edges.now k).start ≤ most
         → at level.old (edge_at edges.now k).finish + (edge_at edges.now k).gain ≤ most
@@ -45,11 +45,11 @@ fn lift(edges: &[Edge], k: usize, level: &mut [usize], by: &mut [usize]) -> bool
 /// Goes over all edges, up to the first event that comes above the limit; the event that was lifted last.
 fn pass(edges: &[Edge], level: &mut [usize], by: &mut [usize], limit: usize) -> Option<usize>
     requires within { (most : ℕ) × (limit + most < 2 ^ 64)
-        × AreWithin (length level.old) most edges.now }
+        × EdgesAreWithin (length level.old) most edges.now }
     requires events { length by.old ≡ length level.old }
     requires low { (x : ℕ) → at level.old x ≤ limit }
-    requires grown { IsGrown edges.now level.old by.old }
-    ensures grown { IsGrown edges.now level.new by.new }
+    requires grown { LevelsAreGrown edges.now level.old by.old }
+    ensures grown { LevelsAreGrown edges.now level.new by.new }
     ensures cases { MatchOption result (AreSettled edges.now (at level.new))
         (λ e. (e < length level.old) × (sum level.old < sum level.new)
         × ((x : ℕ) → x ≢ e → at level.new x ≤ limit)) }
@@ -77,13 +77,13 @@ fn climb(
     by: &[usize],
     event: usize,
 ) -> Result<Option<Vec<usize>>, AllocError>
-    requires within { (most : ℕ) × AreWithin (length level.now) most edges.now }
+    requires within { (most : ℕ) × EdgesAreWithin (length level.now) most edges.now }
     requires events { length by.now ≡ length level.now }
-    requires grown { IsGrown edges.now level.now by.now }
+    requires grown { LevelsAreGrown edges.now level.now by.now }
     requires event { event < length level.now }
     ensures gains { IfOk result (λ o. IfSome o (λ w. GainsForEver edges.now w.items)) }
     ensures short { IfOk result (λ o. IfSome o (λ w. length w.items ≤ length level.now)) }
-    ensures found { (most : ℕ) → AreWithin (length level.now) most edges.now
+    ensures found { (most : ℕ) → EdgesAreWithin (length level.now) most edges.now
         → length level.now * most < at level.now event → IfOk result (λ o. IsSome o) }
 {
     let mut place = zeros(alloc, level.len())?;
@@ -110,11 +110,11 @@ fn settle_in(
     by: &mut [usize],
     most: usize,
 ) -> Result<Option<Vec<usize>>, AllocError>
-    requires within { AreWithin (length level.old) most edges.now }
+    requires within { EdgesAreWithin (length level.old) most edges.now }
     requires events { length by.old ≡ length level.old }
     requires small { length level.old * most + most < 2 ^ 63 }
     requires low { (x : ℕ) → at level.old x ≤ length level.old * most }
-    requires grown { IsGrown edges.now level.old by.old }
+    requires grown { LevelsAreGrown edges.now level.old by.old }
     ensures cases { IfOk result (λ o. MatchOption o (AreSettled edges.now (at level.new))
         (λ w. GainsForEver edges.now w.items × (length w.items ≤ length level.old))) }
     ensures events { IfOk result (λ o. length level.new ≡ length level.old) }
@@ -137,9 +137,9 @@ pub fn settle(
     events: usize,
     most: usize,
 ) -> Result<Outcome, AllocError>
-    requires within { AreWithin events most edges.now }
+    requires within { EdgesAreWithin events most edges.now }
     requires small { events * most + most < 2 ^ 63 }
-    ensures { IfOk result (IsOutcome edges.now events) }
+    ensures { IfOk result (IsLevelOutcome edges.now events) }
 {
     let mut level = zeros(alloc, events)?;
     let mut by = zeros(alloc, events)?;

@@ -5,7 +5,7 @@ ghost use Rattle.pesp_nodes.specs.Problems.{IsNodeOf};
 use pesp_forest::Frame;
 use pesp_nodes::{Node, Passage, Problem, offset_range};
 use pesp_problem::{Memory, Pair, SignedRow, Walk};
-use pesp_relaxation::{Basis, Ended, Slopes, slopes_of};
+use pesp_relaxation::{Basis, PivotEnd, Slopes, slopes_of};
 use std::alloc::{AllocError, Global};
 
 /// The greatest multiplier of a pair by amount.
@@ -210,15 +210,15 @@ fn pairs_of(alloc: Global, owns: &[Option<Own>], basis: &Basis) -> Result<Vec<Pa
 /// Pairs that are proposed for a leaf, whether their value grows without end as they are multiplied, and levels of events
 /// that may meet the demands of all rows; none where none were found.
 #[derive(Drop)]
-pub struct Proposal {
+pub struct LeafProposal {
     pub pairs: Vec<Pair>,
     pub endless: bool,
     pub levels: Vec<usize>,
 }
 
 /// No pairs.
-fn nothing_proposed(alloc: Global) -> Proposal {
-    Proposal {
+fn nothing_proposed(alloc: Global) -> LeafProposal {
+    LeafProposal {
         pairs: Vec::new(alloc),
         endless: false,
         levels: Vec::new(alloc),
@@ -270,10 +270,10 @@ fn proposal_of(
     alloc: Global,
     owns: &[Option<Own>],
     basis: &Basis,
-    ended: Ended,
-) -> Result<Proposal, AllocError> {
-    let endless = ended == Ended::Endless;
-    Ok(Proposal {
+    ended: PivotEnd,
+) -> Result<LeafProposal, AllocError> {
+    let endless = ended == PivotEnd::Endless;
+    Ok(LeafProposal {
         pairs: pairs_of(alloc, owns, basis)?,
         endless,
         levels: if endless {
@@ -292,7 +292,7 @@ pub fn propose(
     start: &[Pair],
     weighted: bool,
     rounds: u32,
-) -> Result<Proposal, Memory>
+) -> Result<LeafProposal, Memory>
     requires { IsNodeOf problem.now node.now }
 {
     let frame = Frame::new(alloc, problem.network())?;

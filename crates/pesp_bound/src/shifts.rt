@@ -3,9 +3,9 @@
 ghost use Rattle.std.specs.Prelude.{◌≡◌, ℕ, ◌-◌, ◌<◌, ◌≤◌, length, All, IfOk, IfSome, IsSome, vec_len};
 ghost use Rattle.pesp_problem.specs.Forests.{own_row};
 ghost use Rattle.pesp_nodes.specs.Offsets.{IsSmallOffset};
-ghost use Rattle.pesp_nodes.specs.Problems.{net_of, IsNodeOf};
+ghost use Rattle.pesp_nodes.specs.Problems.{problem_net, IsNodeOf};
 ghost use Rattle.pesp_bound.specs.Leaves.{HasNoGap};
-ghost use Rattle.pesp_bound.specs.Differences.{AreShifts};
+ghost use Rattle.pesp_bound.specs.Differences.{AreRowShifts};
 
 use pesp_nodes::{Node, Problem, offset_range};
 use pesp_problem::Walk;
@@ -29,7 +29,7 @@ pub fn shifts_of(
     requires { IsNodeOf problem.now node.now }
     ensures long { IfOk result (λ o. IfSome o (λ v. vec_len v ≡ length problem.now.network.rows)) }
     ensures shifts { IfOk result (λ o. IfSome o
-        (λ v. AreShifts (net_of problem.now) problem.now.table node.now (length problem.now.table)
+        (λ v. AreRowShifts (problem_net problem.now) problem.now.table node.now (length problem.now.table)
         v.items)) }
     ensures small { IfOk result (λ o. IfSome o
         (λ v. All (λ s. IsSmallOffset problem.now.network.period s.0

@@ -3,8 +3,8 @@
 ghost use Rattle.std.specs.Prelude.{◌≡◌, ℕ, ◌<◌, ◌≤◌, ◌<ℤ◌, length, pos, false, IfOk, IfSome, IsSome, IsSomeAnd, MatchOption};
 ghost use Rattle.pesp_problem.specs.declared.limits.TheConstants.{MOST_EVENTS, MOST_ROWS};
 ghost use Rattle.pesp_problem.specs.Nodes as spec;
-ghost use Rattle.pesp_nodes.specs.Problems.{net_of, IsNodeOf, ArePairs};
-ghost use Rattle.pesp_bound.specs.Settling.{AreWithin, AreSettled, GainsForEver};
+ghost use Rattle.pesp_nodes.specs.Problems.{problem_net, IsNodeOf, ArePairs};
+ghost use Rattle.pesp_bound.specs.Settling.{EdgesAreWithin, AreSettled, GainsForEver};
 ghost use Rattle.pesp_bound.specs.Leaves.{HasNoGap};
 ghost use Rattle.pesp_bound.specs.Decided.{IsDecided};
 ghost use Rattle.pesp_bound.specs.Differences.{IsSystem};
@@ -29,7 +29,7 @@ struct System {
 fn system_of(alloc: Global, problem: &Problem, node: &Node) -> Result<Option<System>, AllocError>
     requires { IsNodeOf problem.now node.now }
     ensures system { IfOk result (λ o. IfSome o
-        (λ s. IsSystem (net_of problem.now) problem.now.table node.now s.rows.items
+        (λ s. IsSystem (problem_net problem.now) problem.now.table node.now s.rows.items
         s.edges.items)) }
     ensures found { HasNoGap problem.now node.now → IfOk result (λ o. IsSome o) }
 {
@@ -50,7 +50,7 @@ fn closing_way(
     events: usize,
     levels: &[usize],
 ) -> Result<Option<Vec<usize>>, AllocError>
-    requires within { AreWithin events 10300001030000 edges.now }
+    requires within { EdgesAreWithin events 10300001030000 edges.now }
     requires few { events ≤ MOST_EVENTS }
     ensures { IfOk result (λ o. MatchOption o ((h : ℕ → ℕ) × AreSettled edges.now h)
         (λ way. GainsForEver edges.now way.items × (length way.items ≤ MOST_ROWS))) }
@@ -75,7 +75,7 @@ pub fn closing_pairs(
     requires { IsNodeOf problem.now node.now }
     ensures pairs { IfOk result (λ o. IfSome o (λ v. ArePairs (length problem.now.table) v.items)) }
     ensures decided { IfOk result (λ o. IsDecided problem.now node.now
-        → IsSomeAnd o (λ v. IsSomeAnd (spec.leaf_value (net_of problem.now) problem.now.table
+        → IsSomeAnd o (λ v. IsSomeAnd (spec.leaf_value (problem_net problem.now) problem.now.table
         node.now v.items false) (λ z. pos 0 <ℤ z))) }
 {
     let network = problem.network();

@@ -1,2 +1,17 @@
 pub mod Marks
 pub mod Steps
+pub mod Rooms
+pub mod Branches
+pub mod LeafSums
+pub mod Settled
+pub mod Numbers
+pub mod Turns
+pub mod Sizes
+pub mod Ends
+pub mod Singles
+pub mod Replies
+pub mod Spent
+pub mod Found
+pub mod Places
+pub mod Tables
+pub mod Slacks

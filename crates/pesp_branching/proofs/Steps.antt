@@ -6,17 +6,16 @@ use Rattle.pesp_problem.specs.declared.cut.Cut.{Cut}
 use Rattle.pesp_problem.specs.declared.cut.Side.TheVariants.{Low, High}
 use Rattle.pesp_problem.specs.Nodes.{Node, part, leaf_value, offsets_left}
 use Rattle.pesp_truth.specs.declared.tree.TreeLine.{TreeLine}
-use Rattle.pesp_truth.specs.Trees.{EndLine, CutLine, Shut, ByPropagation, IsSoundLeaf}
+use Rattle.pesp_truth.specs.Trees.{Plain, EndLine, CutLine, Shut, ByPropagation, IsSoundLeaf, line_of}
 use Rattle.pesp_truth.specs.Trees as trees
-use Rattle.pesp_truth.specs.Certificates.{line_of}
-use Rattle.pesp_nodes.specs.Problems.{ProblemValue, net_of}
+use Rattle.pesp_nodes.specs.Problems.{ProblemValue, problem_net}
 use Rattle.pesp_bound.specs.declared.leaf.Leaf.{Leaf as Found}
 use Rattle.pesp_bound.specs.declared.leaf.Leaf.TheVariants.{Gap, Nothing, Bound}
 use Rattle.pesp_bound.specs.Leaves.{IsLeafOf, IsNoLess}
-use Rattle.pesp_machine.specs.Events.{MayShut}
-use Rattle.pesp_machine.proofs.Works.{pairs_exist}
-use Rattle.pesp_search_laws.specs.Turns.{IsFoundAt}
-use Rattle.pesp_branching.specs.Expanding.{leaf_of, IsLeafLine, IsStepOf, IsFoundLine, IsExpanded}
+use Rattle.pesp_tree.specs.Events.{MayShut}
+use Rattle.pesp_tree.proofs.Works.{pairs_exist}
+use Rattle.pesp_branching.specs.Turns.{IsFoundAt}
+use Rattle.pesp_branching.specs.Expanding.{leaf_that_is_found, IsLeafLine, IsStepOf, IsFoundLine, IsExpanded}
 
 is_none : {A : Type 0} (o : Option A) → o ≡ None → IsNone o
 is_none None e = refl
@@ -27,27 +26,27 @@ none_is None e = refl
 none_is (Some x) e = cc
 
 pub gap_leaf : (p : ProblemValue) (node : Node) (cycle : ℕ)
-    → IsSoundLeaf None (net_of p) p.table None (trees.Gap cycle) node → IsLeafOf p node (Gap cycle)
-gap_leaf p node cycle l = (l.0, none_is (offsets_left (net_of p) p.table node (cycle - 1)) l.1)
+    → IsSoundLeaf (Plain None) (problem_net p) p.table (trees.Gap cycle) node → IsLeafOf p node (Gap cycle)
+gap_leaf p node cycle l = (l.0, none_is (offsets_left (problem_net p) p.table node (cycle - 1)) l.1)
 
 and_some : (o : Option ℤ) (P : ℤ → Type 0) (v : ℤ) → o ≡ Some v → P v → IsSomeAnd o P
 and_some o P v e h = rw e h
 
 found_leaf : (p : ProblemValue) (start : List Pair) (node : Node) (leaf : Found) → IsLeafOf p node leaf
-    → IsNoLess p node start leaf → IsFoundAt p start node (leaf_of leaf)
-found_leaf p start node (Gap cycle) l n = (l.0, (l.0, is_none (offsets_left (net_of p) p.table node (cycle - 1)) l.1))
+    → IsNoLess p node start leaf → IsFoundAt p start node (leaf_that_is_found leaf)
+found_leaf p start node (Gap cycle) l n = (l.0, (l.0, is_none (offsets_left (problem_net p) p.table node (cycle - 1)) l.1))
 found_leaf p start node (Nothing pairs) l n = (l.1, (pairs_exist p.table pairs l.1, l.2))
 found_leaf p start node (Bound pairs value) l n = (
   l.0,
   l.1,
-  and_some (leaf_value (net_of p) p.table node pairs true)
-      (λ v. IfSome (leaf_value (net_of p) p.table node start true) (λ w. w ≤ℤ v)) value l.2 n,
+  and_some (leaf_value (problem_net p) p.table node pairs true)
+      (λ v. IfSome (leaf_value (problem_net p) p.table node start true) (λ w. w ≤ℤ v)) value l.2 n,
 )
 
 pub found_line : (p : ProblemValue) (start : List Pair) (node : Node) (leaf : Found) (line : TreeLine)
-    → IsLeafOf p node leaf → IsNoLess p node start leaf → line_of line ≡ EndLine (leaf_of leaf)
+    → IsLeafOf p node leaf → IsNoLess p node start leaf → line_of line ≡ EndLine (leaf_that_is_found leaf)
     → IsFoundLine p start node line
-found_line p start node leaf line l n e = record { leaf = leaf_of leaf; says = e; found = found_leaf p start node leaf l n }
+found_line p start node leaf line l n e = record { leaf = leaf_that_is_found leaf; says = e; found = found_leaf p start node leaf l n }
 
 -- a node that propagation shuts
 pub shut_line : (p : ProblemValue) (start : List Pair) (node : Node) (line : TreeLine)

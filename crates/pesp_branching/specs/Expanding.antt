@@ -5,19 +5,18 @@ use Rattle.pesp_problem.specs.declared.cut.Cut.{Cut}
 use Rattle.pesp_problem.specs.declared.cut.Side.TheVariants.{Low, High}
 use Rattle.pesp_problem.specs.Nodes.{Node, part}
 use Rattle.pesp_truth.specs.declared.tree.TreeLine.{TreeLine}
-use Rattle.pesp_truth.specs.Trees.{Leaf, EndLine}
+use Rattle.pesp_truth.specs.Trees.{Leaf, EndLine, line_of}
 use Rattle.pesp_truth.specs.Trees as trees
-use Rattle.pesp_truth.specs.Certificates.{line_of}
 use Rattle.pesp_nodes.specs.Problems.{ProblemValue}
 use Rattle.pesp_bound.specs.declared.leaf.Leaf.{Leaf as Found}
 use Rattle.pesp_bound.specs.declared.leaf.Leaf.TheVariants.{Gap, Nothing, Bound}
-use Rattle.pesp_search_laws.specs.Turns.{AreStep, IsFoundAt}
+use Rattle.pesp_branching.specs.Turns.{AreStep, IsFoundAt}
 
 -- a leaf that was found as a leaf of a tree
-abbrev pub leaf_of : Found → Leaf
-leaf_of (Gap cycle) = trees.Gap cycle
-leaf_of (Nothing pairs) = trees.Nothing pairs
-leaf_of (Bound pairs value) = trees.Bound pairs
+abbrev pub leaf_that_is_found : Found → Leaf
+leaf_that_is_found (Gap cycle) = trees.Gap cycle
+leaf_that_is_found (Nothing pairs) = trees.Nothing pairs
+leaf_that_is_found (Bound pairs value) = trees.Bound pairs
 
 -- the line of a leaf
 pub record IsLeafLine (line : TreeLine) : Type 0 where

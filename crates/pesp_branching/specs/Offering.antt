@@ -1,8 +1,8 @@
 -- Times that are offered on the way.
 use Rattle.std.specs.Prelude.{◌≡◌, ◌⊎◌, ℕ, List, Bool}
 use Rattle.pesp_nodes.specs.Problems.{ProblemValue}
-use Rattle.pesp_machine.specs.States.{State}
-use Rattle.pesp_machine.specs.Events.{Offers}
+use Rattle.pesp_tree.specs.States.{State}
+use Rattle.pesp_tree.specs.Events.{Offers}
 
 -- times are offered, with some reply
 abbrev pub OffersSome : ProblemValue → State → State → Type 0

@@ -5,23 +5,23 @@ ghost use Rattle.pesp_problem.specs.declared.limits.TheConstants.{MOST_CYCLES, M
 ghost use Rattle.pesp_problem.specs.Walks.{Names};
 ghost use Rattle.pesp_problem.specs.Nodes.{slack_range, offset_range, LeavesBoth};
 ghost use Rattle.pesp_truth.specs.Trees.{CutExists};
-ghost use Rattle.pesp_nodes.specs.Problems.{net_of, IsNodeOf};
-ghost use Rattle.pesp_search_laws.specs.Rooms.{IsCounted};
-ghost use Rattle.pesp_search_laws.specs.Settled.{IsSettled};
+ghost use Rattle.pesp_nodes.specs.Problems.{problem_net, IsNodeOf};
+ghost use Rattle.pesp_branching.specs.Rooms.{IsCounted};
+ghost use Rattle.pesp_branching.specs.Settled.{IsSettled};
 ghost use Rattle.pesp_branching.specs.Passing.{ArePassedRows};
 
 use crate::advice::Proposal;
 use crate::slack_cut::Narrowing;
 use pesp_nodes::{Node, Problem};
 use pesp_problem::Cut;
-use pesp_strategy::{Part, Split};
+use pesp_strategy::{PartPairs, Split};
 
 /// A cut, and what is proposed for both its parts.
 #[derive(Drop)]
 pub struct Choice {
     pub cut: Cut,
-    pub low: Option<Part>,
-    pub high: Option<Part>,
+    pub low: Option<PartPairs>,
+    pub high: Option<PartPairs>,
 }
 
 /// The first range of offsets with two values, and the least of them.
@@ -81,10 +81,10 @@ fn leaves_both(offsets: &[(i64, i64)], cycle: u32, k: i64) -> bool
 fn proposed_cut(problem: &Problem, node: &Node, split: Split) -> Option<Choice>
     requires { IsNodeOf problem.now node.now }
     ensures exists { IfSome result
-        (λ choice. CutExists (net_of problem.now) problem.now.table choice.cut) }
+        (λ choice. CutExists (problem_net problem.now) problem.now.table choice.cut) }
     ensures both { IfSome result (λ choice. LeavesBoth node.now choice.cut) }
     ensures counted { IfSome result
-        (λ choice. IsCounted (net_of problem.now) problem.now.table choice.cut) }
+        (λ choice. IsCounted (problem_net problem.now) problem.now.table choice.cut) }
 {
     let _few = problem.arcs();
     let Split {
@@ -129,10 +129,10 @@ fn narrowing_cut(
     requires node { IsNodeOf problem.now node.now }
     requires passed { ArePassedRows problem.now passed.now }
     ensures exists { IfSome result
-        (λ choice. CutExists (net_of problem.now) problem.now.table choice.cut) }
+        (λ choice. CutExists (problem_net problem.now) problem.now.table choice.cut) }
     ensures both { IfSome result (λ choice. LeavesBoth node.now choice.cut) }
     ensures counted { IfSome result
-        (λ choice. IsCounted (net_of problem.now) problem.now.table choice.cut) }
+        (λ choice. IsCounted (problem_net problem.now) problem.now.table choice.cut) }
 {
     let _few = problem.arcs();
     let Narrowing { row, k } = narrowing;
@@ -151,10 +151,10 @@ fn chosen_cut(problem: &Problem, node: &Node, passed: &[bool], proposal: Proposa
     requires node { IsNodeOf problem.now node.now }
     requires passed { ArePassedRows problem.now passed.now }
     ensures exists { IfSome result
-        (λ choice. CutExists (net_of problem.now) problem.now.table choice.cut) }
+        (λ choice. CutExists (problem_net problem.now) problem.now.table choice.cut) }
     ensures both { IfSome result (λ choice. LeavesBoth node.now choice.cut) }
     ensures counted { IfSome result
-        (λ choice. IsCounted (net_of problem.now) problem.now.table choice.cut) }
+        (λ choice. IsCounted (problem_net problem.now) problem.now.table choice.cut) }
 {
     match proposal {
         Proposal::Split(split) => proposed_cut(problem, node, split),
@@ -166,10 +166,10 @@ fn chosen_cut(problem: &Problem, node: &Node, passed: &[bool], proposal: Proposa
 fn cut_at(problem: &Problem, node: &Node, passed: &[bool]) -> Option<Cut>
     requires node { IsNodeOf problem.now node.now }
     requires passed { ArePassedRows problem.now passed.now }
-    ensures exists { IfSome result (CutExists (net_of problem.now) problem.now.table) }
+    ensures exists { IfSome result (CutExists (problem_net problem.now) problem.now.table) }
     ensures both { IfSome result (LeavesBoth node.now) }
-    ensures counted { IfSome result (IsCounted (net_of problem.now) problem.now.table) }
-    ensures none { IfNone result (IsSettled (net_of problem.now) problem.now.table node.now) }
+    ensures counted { IfSome result (IsCounted (problem_net problem.now) problem.now.table) }
+    ensures none { IfNone result (IsSettled (problem_net problem.now) problem.now.table node.now) }
 {
     let _few = problem.arcs();
     if let Some((cycle, k)) = offset_to_cut(node.offsets()) {
@@ -190,11 +190,11 @@ pub fn choose(
     requires node { IsNodeOf problem.now node.now }
     requires passed { ArePassedRows problem.now passed.now }
     ensures exists { IfSome result
-        (λ choice. CutExists (net_of problem.now) problem.now.table choice.cut) }
+        (λ choice. CutExists (problem_net problem.now) problem.now.table choice.cut) }
     ensures both { IfSome result (λ choice. LeavesBoth node.now choice.cut) }
     ensures counted { IfSome result
-        (λ choice. IsCounted (net_of problem.now) problem.now.table choice.cut) }
-    ensures none { IfNone result (IsSettled (net_of problem.now) problem.now.table node.now) }
+        (λ choice. IsCounted (problem_net problem.now) problem.now.table choice.cut) }
+    ensures none { IfNone result (IsSettled (problem_net problem.now) problem.now.table node.now) }
 {
     if let Some(proposal) = proposal {
         if let Some(choice) = chosen_cut(problem, node, passed, proposal) {

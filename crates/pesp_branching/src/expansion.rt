@@ -2,11 +2,10 @@
 
 ghost use Rattle.std.specs.Prelude.{◌≡◌, length, IfOk, IfSome};
 ghost use Rattle.pesp_problem.specs.Nodes.{part};
-ghost use Rattle.pesp_truth.specs.Trees.{EndLine, CutLine, CutExists};
-ghost use Rattle.pesp_truth.specs.Certificates.{line_of};
-ghost use Rattle.pesp_nodes.specs.Problems.{net_of, IsNodeOf, IsCutOf, ArePairs};
+ghost use Rattle.pesp_truth.specs.Trees.{EndLine, CutLine, CutExists, line_of};
+ghost use Rattle.pesp_nodes.specs.Problems.{problem_net, IsNodeOf, IsCutOf, ArePairs};
 ghost use Rattle.pesp_bound.specs.Leaves.{IsLeafOf, IsNoLess};
-ghost use Rattle.pesp_branching.specs.Expanding.{leaf_of, IsLeafLine, IsStepOf, IsFoundLine, IsExpanded};
+ghost use Rattle.pesp_branching.specs.Expanding.{leaf_that_is_found, IsLeafLine, IsStepOf, IsFoundLine, IsExpanded};
 
 use crate::choice::Choice;
 use crate::part_leaf::leaf_of_part;
@@ -14,7 +13,7 @@ use pesp_board::is_shut_by_propagation;
 use pesp_bound::{Leaf, best_leaf_from};
 use pesp_nodes::{Node, Pairs, Problem, offset_range};
 use pesp_problem::{Cut, Memory, Pair, Side};
-use pesp_strategy::Part;
+use pesp_strategy::PartPairs;
 use pesp_truth::TreeLine;
 use std::alloc::Global;
 
@@ -23,7 +22,7 @@ const ROUNDS: u32 = 100;
 
 /// The line of a leaf.
 pub fn leaf_line(leaf: Leaf) -> TreeLine
-    ensures { line_of result ≡ EndLine (leaf_of leaf) }
+    ensures { line_of result ≡ EndLine (leaf_that_is_found leaf) }
 {
     match leaf {
         Leaf::Gap { cycle } => TreeLine::Gap(cycle),
@@ -57,7 +56,7 @@ fn leaves_offsets(problem: &Problem, node: &Node, cut: Cut) -> bool
 }
 
 /// The line of what is proposed for a part.
-fn part_line(alloc: Global, part: &Part) -> Result<TreeLine, Memory>
+fn part_line(alloc: Global, part: &PartPairs) -> Result<TreeLine, Memory>
     ensures { IfOk result IsLeafLine }
 {
     let pairs = Pairs::new(part.pairs.to_vec(alloc)?);
@@ -103,7 +102,7 @@ fn leaf_at(
     problem: &Problem,
     node: &Node,
     start: &[Pair],
-    part: Option<Part>,
+    part: Option<PartPairs>,
 ) -> Result<Leaf, Memory>
     requires node { IsNodeOf problem.now node.now }
     requires start { ArePairs (length problem.now.table) start.now }
@@ -133,7 +132,7 @@ fn found_at(
     node: &Node,
     cut: &Cut,
     start: &[Pair],
-    part: Option<Part>,
+    part: Option<PartPairs>,
 ) -> Result<TreeLine, Memory>
     requires node { IsNodeOf problem.now node.now }
     requires start { ArePairs (length problem.now.table) start.now }

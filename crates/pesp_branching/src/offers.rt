@@ -3,18 +3,18 @@
 ghost use Rattle.std.specs.Prelude.{◌≡◌, ℕ, length, IfOk, IfSome, OnOk};
 ghost use Rattle.pesp_problem.specs.NetTimetables.{IsNetTimetable};
 ghost use Rattle.pesp_network.specs.Networks.{net_of_network};
-ghost use Rattle.pesp_search_laws.specs.Turns.{IsWorked};
+ghost use Rattle.pesp_branching.specs.Turns.{IsWorked};
 ghost use Rattle.pesp_branching.specs.Offering.{OffersSome, MayOffer, OffersFirst};
 
 use crate::settings::{
     BATCHES, BATCHES_OF_MANY_ROWS, BATCHES_OF_MORE_ROWS, FEW_ROWS, MET_ROUNDS, MORE_ROWS,
 };
+use crate::turn::times_are_offered;
 use pesp_board::Board;
-use pesp_finder::TimesFinder;
+use pesp_forest::TimesFinder;
 use pesp_network::Network;
 use pesp_problem::Memory;
 use pesp_reduce::Reduced;
-use pesp_search_laws::turn::times_are_offered;
 use pesp_simplex::{Improved, SimplexRefusal, improve};
 use std::alloc::Global;
 

@@ -2,21 +2,21 @@
 
 ghost use Rattle.std.specs.Prelude.{◌≡◌, length, true, false, pos, ◌<ℤ◌, ◌≤ℤ◌, Some, None, IfSome, IsSomeAnd, IsTrue, MatchOption};
 ghost use Rattle.pesp_problem.specs.Nodes as spec;
-ghost use Rattle.pesp_truth.specs.Trees.{Gap, IsSoundLeaf};
-ghost use Rattle.pesp_nodes.specs.Problems.{net_of, IsNodeOf, ArePairs};
+ghost use Rattle.pesp_truth.specs.Trees.{Plain, Gap, IsSoundLeaf};
+ghost use Rattle.pesp_nodes.specs.Problems.{problem_net, IsNodeOf, ArePairs};
 ghost use Rattle.pesp_bound.specs.Leaves.{IsLeafOf, IsNoLess};
-ghost use Rattle.pesp_search_laws.specs.Settled.{HaveOffsetsLeft};
+ghost use Rattle.pesp_branching.specs.Settled.{HaveOffsetsLeft};
 
 use pesp_bound::Leaf;
 use pesp_nodes::{Node, Pairs, Problem, are_pairs, first_gap, leaf_value};
 use pesp_problem::Pair;
-use pesp_strategy::Part;
+use pesp_strategy::PartPairs;
 
 /// The first cycle that has no offset left.
 pub fn gap_at(problem: &Problem, node: &Node) -> Option<u32>
     requires { IsNodeOf problem.now node.now }
-    ensures { MatchOption result (HaveOffsetsLeft (net_of problem.now) problem.now.table node.now)
-        (λ cycle. IsSoundLeaf None (net_of problem.now) problem.now.table None (Gap cycle) node.now) }
+    ensures { MatchOption result (HaveOffsetsLeft (problem_net problem.now) problem.now.table node.now)
+        (λ cycle. IsSoundLeaf (Plain None) (problem_net problem.now) problem.now.table (Gap cycle) node.now) }
 {
     first_gap(problem, node)
 }
@@ -25,7 +25,7 @@ pub fn gap_at(problem: &Problem, node: &Node) -> Option<u32>
 fn shows_nothing(problem: &Problem, node: &Node, pairs: &[Pair]) -> bool
     requires node { IsNodeOf problem.now node.now }
     requires pairs { ArePairs (length problem.now.table) pairs.now }
-    ensures { IsTrue result → IsSomeAnd (spec.leaf_value (net_of problem.now) problem.now.table
+    ensures { IsTrue result → IsSomeAnd (spec.leaf_value (problem_net problem.now) problem.now.table
         node.now pairs.now false) (λ v. pos 0 <ℤ v) }
 {
     match leaf_value(problem, node, pairs, false) {
@@ -39,10 +39,10 @@ fn value_from(problem: &Problem, node: &Node, start: &[Pair], pairs: &[Pair]) ->
     requires node { IsNodeOf problem.now node.now }
     requires start { ArePairs (length problem.now.table) start.now }
     requires pairs { ArePairs (length problem.now.table) pairs.now }
-    ensures value { IfSome result (λ v. spec.leaf_value (net_of problem.now) problem.now.table
+    ensures value { IfSome result (λ v. spec.leaf_value (problem_net problem.now) problem.now.table
         node.now pairs.now true ≡ Some v) }
     ensures start { IfSome result (λ v. IfSome
-        (spec.leaf_value (net_of problem.now) problem.now.table node.now start.now true)
+        (spec.leaf_value (problem_net problem.now) problem.now.table node.now start.now true)
         (λ w. w ≤ℤ v)) }
 {
     let value = leaf_value(problem, node, pairs, true)?;
@@ -53,14 +53,14 @@ fn value_from(problem: &Problem, node: &Node, start: &[Pair], pairs: &[Pair]) ->
 }
 
 /// The leaf of pairs that are proposed where no cycle is without an offset.
-fn leaf_of_pairs(problem: &Problem, node: &Node, start: &[Pair], part: Part) -> Option<Leaf>
+fn leaf_of_pairs(problem: &Problem, node: &Node, start: &[Pair], part: PartPairs) -> Option<Leaf>
     requires node { IsNodeOf problem.now node.now }
-    requires left { HaveOffsetsLeft (net_of problem.now) problem.now.table node.now }
+    requires left { HaveOffsetsLeft (problem_net problem.now) problem.now.table node.now }
     requires start { ArePairs (length problem.now.table) start.now }
     ensures leaf { IfSome result (IsLeafOf problem.now node.now) }
     ensures start { IfSome result (IsNoLess problem.now node.now start.now) }
 {
-    let Part {
+    let PartPairs {
         pairs,
         is_endless,
         ..
@@ -86,7 +86,7 @@ pub(crate) fn leaf_of_part(
     problem: &Problem,
     node: &Node,
     start: &[Pair],
-    part: Part,
+    part: PartPairs,
 ) -> Option<Leaf>
     requires node { IsNodeOf problem.now node.now }
     requires start { ArePairs (length problem.now.table) start.now }

@@ -7,12 +7,11 @@ use Rattle.std.proofs.lemmas.List.Concat.{flat_map-cons}
 use Rattle.pesp_problem.specs.declared.row.SignedRow.{SignedRow}
 use Rattle.pesp_truth.specs.declared.tree.TreeLine.{TreeLine}
 use Rattle.pesp_truth.specs.declared.tree.TreeLine.TheVariants as lines
-use Rattle.pesp_truth.specs.Certificates.{Content}
+use Rattle.pesp_truth.specs.Certificates.{Content, Front}
 use Rattle.pesp_cert_lines.specs.declared.item.Item.{Item}
 use Rattle.pesp_cert_lines.specs.declared.item.Item.TheVariants.{Walk, Cycle, End}
-use Rattle.pesp_nets.specs.declared.marked.MarkedRow.{MarkedRow}
-use Rattle.pesp_lemma.specs.Shown.{LemmaProof}
-use Rattle.pesp_lemma.specs.Fronts.{Front}
+use Rattle.pesp_problem.specs.declared.marked.MarkedRow.{MarkedRow}
+use Rattle.pesp_truth.specs.Shown.{LemmaProof}
 use Rattle.pesp_cert.specs.Texts.{time_item, tree_item, own_items, lemma_items, items_of}
 use Rattle.pesp_cert.specs.Drafts.{blank, with_line, with_step, added_behind, all_added, FrontValue, no_front, lemmas_with, noted, all_noted, front_said}
 

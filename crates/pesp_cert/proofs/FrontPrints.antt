@@ -5,12 +5,11 @@ use Rattle.std.specs.List.{flat_map}
 use Rattle.std.specs.Fmt.{signed_decimal}
 use Rattle.std.proofs.lemmas.List.{append-nil}
 use Rattle.std.proofs.lemmas.List.Concat.{flat_map-cons, flat_map-append}
-use Rattle.pesp_text.specs.Words.{spaced}
-use Rattle.pesp_nets.specs.declared.marked.MarkedRow.{MarkedRow}
+use Rattle.pesp_stream.specs.Words.{spaced}
+use Rattle.pesp_problem.specs.declared.marked.MarkedRow.{MarkedRow}
 use Rattle.pesp_truth.specs.Marks.{Marks}
-use Rattle.pesp_lemma.specs.Shown.{LemmaProof}
-use Rattle.pesp_lemma.specs.Fronts.{Front as FrontOf}
-use Rattle.pesp_truth.specs.Certificates.{Content}
+use Rattle.pesp_truth.specs.Shown.{LemmaProof}
+use Rattle.pesp_truth.specs.Certificates.{Front as FrontOf, Content}
 use Rattle.pesp_cert_lines.specs.Marked.{marked_words}
 use Rattle.pesp_cert_lines.specs.declared.item.Item.{Item}
 use Rattle.pesp_cert_lines.specs.declared.item.Item.TheVariants.{Front, Scale, Walk, Lemma, Least, Cycle}
@@ -18,7 +17,7 @@ use Rattle.pesp_cert_lines.specs.Items.{item_line}
 use Rattle.pesp_cert.specs.Texts.{text_of, tree_item, marks_items, lemma_items, front_items, own_items, spelling}
 use Rattle.pesp_cert.specs.Fronted.{front_text}
 use Rattle.pesp_cert.specs.FrontPrint.{row_text, rows_text, walk_text, marks_text, lemma_text}
-use Rattle.pesp_cert.specs.Print.{pairs_text, cycle_line, tree_line}
+use Rattle.pesp_cert.specs.Print.{pairs_text, cycle_line, tree_line_text}
 use Rattle.pesp_cert.proofs.PrintLaws.{pairs_are, cycle_is, tree_is, mapped}
 
 rows_are : (walk : List MarkedRow) → spaced (marked_words walk) ≡ rows_text walk
@@ -63,21 +62,21 @@ lemma_is s =
     let ms : List Item = marks_items s.marks in
     let cs : List Item = map Cycle s.cycles in
     let ts : List Item = map tree_item s.tree in
-    let rest : text_of ((ms ++ cs) ++ ts) ≡ (marks_text s.marks ++ flat_map cycle_line s.cycles) ++ flat_map tree_line s.tree =
+    let rest : text_of ((ms ++ cs) ++ ts) ≡ (marks_text s.marks ++ flat_map cycle_line s.cycles) ++ flat_map tree_line_text s.tree =
     flat_map-append item_line (ms ++ cs) ts
     ∙ ap (λ (w : List ℕ). w ++ text_of ts) (flat_map-append item_line ms cs
     ∙ ap (λ (w : List ℕ). w ++ text_of cs) (sym (marks_are s.marks))
     ∙ ap (λ (w : List ℕ). marks_text s.marks ++ w) (mapped Cycle cycle_line cycle_is s.cycles))
-    ∙ ap (λ (w : List ℕ). (marks_text s.marks ++ flat_map cycle_line s.cycles) ++ w) (mapped tree_item tree_line tree_is s.tree) in
+    ∙ ap (λ (w : List ℕ). (marks_text s.marks ++ flat_map cycle_line s.cycles) ++ w) (mapped tree_item tree_line_text tree_is s.tree) in
     let all : text_of (lemma_items s) ≡ item_line (Lemma s.fact.weights) ++ (item_line (Least s.fact.least)
-    ++ ((marks_text s.marks ++ flat_map cycle_line s.cycles) ++ flat_map tree_line s.tree)) =
+    ++ ((marks_text s.marks ++ flat_map cycle_line s.cycles) ++ flat_map tree_line_text s.tree)) =
     flat_map-cons item_line (Lemma s.fact.weights) (Least s.fact.least ∷ (ms ++ cs) ++ ts)
     ∙ ap (λ (t : List ℕ). item_line (Lemma s.fact.weights) ++ t) (flat_map-cons item_line (Least s.fact.least) ((ms ++ cs) ++ ts)
     ∙ ap (λ (t : List ℕ). item_line (Least s.fact.least) ++ t) rest) in
     lemma_shape (codes "lemma") (pairs_text s.fact.weights) (codes "least") (signed_decimal s.fact.least) (marks_text s.marks)
-    (flat_map cycle_line s.cycles) (flat_map tree_line s.tree)
+    (flat_map cycle_line s.cycles) (flat_map tree_line_text s.tree)
     ∙ sym (all ∙ ap (λ (p : List ℕ). ((codes "lemma" ++ p) ++ (10 ∷ [])) ++ (item_line (Least s.fact.least)
-    ++ ((marks_text s.marks ++ flat_map cycle_line s.cycles) ++ flat_map tree_line s.tree))) (pairs_are s.fact.weights))
+    ++ ((marks_text s.marks ++ flat_map cycle_line s.cycles) ++ flat_map tree_line_text s.tree))) (pairs_are s.fact.weights))
 
 lemmas_are : (ss : List LemmaProof) → flat_map lemma_text ss ≡ text_of (flat_map lemma_items ss)
 lemmas_are [] = refl

@@ -5,15 +5,14 @@ use Rattle.std.specs.List.{list_all, flat_map}
 use Rattle.std.proofs.lemmas.Bool.Decides.{nat_tests}
 use Rattle.std.proofs.lemmas.List.Sums.{sum_by-cons}
 use Rattle.std.proofs.lemmas.List.Concat.{flat_map-cons}
-use Rattle.pesp_nets.specs.declared.marked.MarkedRow.{MarkedRow}
+use Rattle.pesp_problem.specs.declared.marked.MarkedRow.{MarkedRow}
 use Rattle.pesp_truth.specs.Marks.{Marks}
-use Rattle.pesp_truth.specs.FrontLimits.{is_scale, are_few, is_walk, total_rows, keeps_limits as marks_keep_limits}
+use Rattle.pesp_truth.specs.FrontLimits.{is_scale, are_few, is_walk, total_rows, marks_keep_limits as marks_keep_limits}
 use Rattle.pesp_problem.specs.declared.row.SignedRow.{SignedRow}
 use Rattle.pesp_truth.specs.declared.tree.TreeLine.{TreeLine}
-use Rattle.pesp_truth.specs.Trees.{are_trees}
-use Rattle.pesp_truth.specs.Certificates.{Content, line_of}
-use Rattle.pesp_lemma.specs.Shown.{LemmaProof}
-use Rattle.pesp_lemma.specs.Fronts.{Front as FrontOf}
+use Rattle.pesp_truth.specs.Trees.{are_trees, line_of}
+use Rattle.pesp_truth.specs.Certificates.{Content, Front as FrontOf}
+use Rattle.pesp_truth.specs.Shown.{LemmaProof}
 use Rattle.pesp_cert_lines.specs.declared.kind.Kind.TheVariants as kinds
 use Rattle.pesp_cert_lines.specs.declared.item.Item.{Item}
 use Rattle.pesp_cert_lines.specs.declared.item.Item.TheVariants.{Front, Scale, Walk, Lemma, Least, Version, Cycle}
@@ -26,7 +25,7 @@ use Rattle.pesp_cert_lines.specs.Marked.{are_named}
 use Rattle.pesp_cert_lines.specs.Pairs.{rise_from, all_within}
 use Rattle.pesp_cert_lines.specs.Counts.{beginning, allows, keeps_counts, kind_in, CanStand}
 use Rattle.pesp_cert_lines.proofs.Tests.{and_left, and_right, and_both}
-use Rattle.pesp_cert.specs.Limits.{KeepsLimits, are_pairs, is_lemma, are_cycles, is_cycle, total_rows as cycle_rows, are_lines, is_line, total_pairs, is_shown_lemma, are_lemmas, front_keeps_limits, keeps_limits}
+use Rattle.pesp_cert.specs.Limits.{ContentKeepsLimits, are_pairs, is_lemma, are_cycles, is_cycle, total_rows as cycle_rows, are_lines, line_keeps_limits, total_pairs, is_shown_lemma, are_lemmas, front_keeps_limits, keeps_limits}
 use Rattle.pesp_cert.specs.Texts.{IsRun, HasText, own_items, tree_item, lemma_items, items_of, takes}
 use Rattle.pesp_cert.proofs.LimitFacts.{limits_of, le_of}
 use Rattle.pesp_cert.proofs.Runs.{Base, in_tree, in_cycles, Fit, run_onto, run_first, run_rest, items_shape, tree_gives, ends_tree, tree_takes, tree_where_cycle, shown_known, cycles_give, cycles_take, cycles_test, lines_test, own_give, own_take, limits_give, text_keeps_limits}
@@ -244,14 +243,14 @@ cycle_facts cs h =
     )
 
 line_facts : (ls : List TreeLine) → are_lines ls ≡ true → (length ls ≤ 1000000) × (total_pairs ls ≤ 20000000)
-    × (list_all is_line ls ≡ true) × (are_trees 1 (map line_of ls) ≡ true)
+    × (list_all line_keeps_limits ls ≡ true) × (are_trees 1 (map line_of ls) ≡ true)
 line_facts ls h =
-    let l1 = and_left (nat_le (length ls) 1000000 && nat_le (total_pairs ls) 20000000 && list_all is_line ls) (are_trees 1 (map line_of ls)) h in
-    let l2 = and_left (nat_le (length ls) 1000000 && nat_le (total_pairs ls) 20000000) (list_all is_line ls) l1 in (
+    let l1 = and_left (nat_le (length ls) 1000000 && nat_le (total_pairs ls) 20000000 && list_all line_keeps_limits ls) (are_trees 1 (map line_of ls)) h in
+    let l2 = and_left (nat_le (length ls) 1000000 && nat_le (total_pairs ls) 20000000) (list_all line_keeps_limits ls) l1 in (
       le_of (length ls) 1000000 (and_left (nat_le (length ls) 1000000) (nat_le (total_pairs ls) 20000000) l2),
       le_of (total_pairs ls) 20000000 (and_right (nat_le (length ls) 1000000) (nat_le (total_pairs ls) 20000000) l2),
-      and_right (nat_le (length ls) 1000000 && nat_le (total_pairs ls) 20000000) (list_all is_line ls) l1,
-      and_right (nat_le (length ls) 1000000 && nat_le (total_pairs ls) 20000000 && list_all is_line ls) (are_trees 1 (map line_of ls)) h,
+      and_right (nat_le (length ls) 1000000 && nat_le (total_pairs ls) 20000000) (list_all line_keeps_limits ls) l1,
+      and_right (nat_le (length ls) 1000000 && nat_le (total_pairs ls) 20000000 && list_all line_keeps_limits ls) (are_trees 1 (map line_of ls)) h,
     )
 
 -- the cycles and the tree of a lemma, behind its marked walks
@@ -378,7 +377,7 @@ lemmas_shape s ss own = ap (λ (is : List Item). is ++ own) (flat_map-cons lemma
     ∙ append_assoc (lemma_items s) (flat_map lemma_items ss) own
 
 lemmas_give : (ss : List LemmaProof) (p : Progress) (c : Content) → allows p kinds.Version ≡ true → allows p kinds.Lemma ≡ true
-    → p.lemmas + length ss ≤ 100000 → list_all is_shown_lemma ss ≡ true → KeepsLimits c → IsRun p (flat_map lemma_items ss ++ own_items c)
+    → p.lemmas + length ss ≤ 100000 → list_all is_shown_lemma ss ≡ true → ContentKeepsLimits c → IsRun p (flat_map lemma_items ss ++ own_items c)
 lemmas_give [] p c version lemma few each keeps = own_give p c version keeps
 lemmas_give (s ∷ ss) p c version lemma few each keeps =
     let k = lemma_of s (and_left (is_shown_lemma s) (list_all is_shown_lemma ss) each) in
@@ -417,7 +416,7 @@ lemmas_take (s ∷ ss) p c few run =
 
 -- ---- the whole
 
-front_give : (f : FrontOf) (c : Content) → front_keeps_limits f ≡ true → KeepsLimits c → HasText (Some f) c
+front_give : (f : FrontOf) (c : Content) → front_keeps_limits f ≡ true → ContentKeepsLimits c → HasText (Some f) c
 unfolding front_keeps_limits
 front_give f c h k =
     let marks = marks_of f.marks (and_left (marks_keep_limits f.marks) (are_lemmas f.lemmas) h) in
@@ -439,7 +438,7 @@ front_give f c h k =
           (record { allowed = refl; proper = tt; within = refl; counts = refl }) refl scale;
     }
 
-front_take : (f : FrontOf) (c : Content) → HasText (Some f) c → (front_keeps_limits f ≡ true) × KeepsLimits c
+front_take : (f : FrontOf) (c : Content) → HasText (Some f) c → (front_keeps_limits f ≡ true) × ContentKeepsLimits c
 unfolding front_keeps_limits
 front_take f c h =
     let w : List Item = map Walk f.marks.walks in
@@ -462,7 +461,7 @@ front_take f c h =
       limits_of c l.2,
     )
 
-pub fronts_iff : (front : Option FrontOf) (c : Content) → (IfSome front (λ f. front_keeps_limits f ≡ true) × KeepsLimits c) ↔ HasText front c
+pub fronts_iff : (front : Option FrontOf) (c : Content) → (IfSome front (λ f. front_keeps_limits f ≡ true) × ContentKeepsLimits c) ↔ HasText front c
 fronts_iff None c = (λ k. limits_give c k.1, λ h. (tt, limits_of c (text_keeps_limits c h)))
 fronts_iff (Some f) c = (λ k. front_give f c k.0 k.1, front_take f c)
 

@@ -1,9 +1,8 @@
 -- What a reader answers of the texts of certificates with their fronts.
 use Rattle.std.proofs.Common.{◌≡◌, ℕ, true, List, Option, Result, Ok, Err, refl, ap, inl, inr}
 use Rattle.std.specs.Prelude.{◌⊎◌, IfSome, IsOkAnd}
-use Rattle.pesp_truth.specs.Certificates.{Content}
+use Rattle.pesp_truth.specs.Certificates.{Content, Front}
 use Rattle.pesp_cert.specs.Limits.{front_keeps_limits}
-use Rattle.pesp_lemma.specs.Fronts.{Front}
 use Rattle.pesp_cert_lines.specs.declared.versions.Versions.TheVariants.{All}
 use Rattle.pesp_cert.specs.declared.refusal.CertRefusal.{CertRefusal}
 use Rattle.pesp_cert.specs.declared.refusal.CertRefusal.TheVariants as refusals

@@ -6,16 +6,16 @@ use Rattle.std.proofs.lemmas.Bool.Decides.{nat_tests}
 use Rattle.pesp_truth.specs.Trees.{are_trees}
 use Rattle.pesp_truth.specs.Certificates.{Content, lines_of}
 use Rattle.pesp_truth.specs.Marks.{Marks}
-use Rattle.pesp_lemma.specs.Shown.{LemmaProof}
+use Rattle.pesp_truth.specs.Shown.{LemmaProof}
 use Rattle.pesp_cert_lines.proofs.Tests.{and_left, and_right, and_both}
-use Rattle.pesp_cert.specs.Limits.{is_period, has_costs, is_time, are_times, total_rows, is_cycle, are_cycles, total_pairs, is_line, are_lines, has_line, has_lines, are_lemmas, front_keeps_limits, keeps_limits, KeepsLimits}
-use Rattle.pesp_truth.specs.FrontLimits.{keeps_limits as marks_keep_limits}
+use Rattle.pesp_cert.specs.Limits.{is_period, has_costs, is_time, are_times, total_rows, is_cycle, are_cycles, total_pairs, line_keeps_limits, are_lines, has_line, has_lines, are_lemmas, front_keeps_limits, keeps_limits, ContentKeepsLimits}
+use Rattle.pesp_truth.specs.FrontLimits.{marks_keep_limits as marks_keep_limits}
 use Rattle.pesp_cert.specs.Drafts.{FrontValue, front_said}
 
 pub le_of : (m n : ℕ) → nat_le m n ≡ true → m ≤ n
 le_of m n h = grind (arith, nat_tests, h)
 
-pub limits_of : (c : Content) → keeps_limits c ≡ true → KeepsLimits c
+pub limits_of : (c : Content) → keeps_limits c ≡ true → ContentKeepsLimits c
 unfolding keeps_limits
 limits_of c whole =
     let front = is_period c.period && has_costs c.answer && are_times c.times && are_cycles c.cycles && are_lines c.tree in
@@ -32,8 +32,8 @@ limits_of c whole =
     let answer = and_right (is_period c.period) (has_costs c.answer) h3 in
     let c1 = and_left (nat_le (length c.cycles) 100000 && nat_le (total_rows c.cycles) 10000000) (list_all is_cycle c.cycles) cycles in
     let l1 = and_left (nat_le (length c.tree) 1000000 && nat_le (total_pairs c.tree) 20000000
-    && list_all is_line c.tree) (are_trees 1 (lines_of c)) tree in
-    let l2 = and_left (nat_le (length c.tree) 1000000 && nat_le (total_pairs c.tree) 20000000) (list_all is_line c.tree) l1 in
+    && list_all line_keeps_limits c.tree) (are_trees 1 (lines_of c)) tree in
+    let l2 = and_left (nat_le (length c.tree) 1000000 && nat_le (total_pairs c.tree) 20000000) (list_all line_keeps_limits c.tree) l1 in
     record {
       version = (
         le_of 1 c.version (and_left (nat_le 1 c.version) (nat_le c.version 2) version_is),
@@ -51,9 +51,9 @@ limits_of c whole =
       each_cycle = and_right (nat_le (length c.cycles) 100000 && nat_le (total_rows c.cycles) 10000000) (list_all is_cycle c.cycles) cycles;
       lines = le_of (length c.tree) 1000000 (and_left (nat_le (length c.tree) 1000000) (nat_le (total_pairs c.tree) 20000000) l2);
       pairs = le_of (total_pairs c.tree) 20000000 (and_right (nat_le (length c.tree) 1000000) (nat_le (total_pairs c.tree) 20000000) l2);
-      each_line = and_right (nat_le (length c.tree) 1000000 && nat_le (total_pairs c.tree) 20000000) (list_all is_line c.tree) l1;
+      each_line = and_right (nat_le (length c.tree) 1000000 && nat_le (total_pairs c.tree) 20000000) (list_all line_keeps_limits c.tree) l1;
       whole = and_right (nat_le (length c.tree) 1000000 && nat_le (total_pairs c.tree) 20000000
-          && list_all is_line c.tree) (are_trees 1 (lines_of c)) tree;
+          && list_all line_keeps_limits c.tree) (are_trees 1 (lines_of c)) tree;
       known = and_right (nat_le 1 c.version && nat_le c.version 2) (list_all (has_line c.version) c.tree) version;
     }
 

@@ -6,8 +6,7 @@ use Rattle.std.proofs.lemmas.List.{drop_all}
 use Rattle.pesp_problem.specs.declared.pair.Pair.{Pair}
 use Rattle.pesp_truth.specs.declared.tree.TreeLine.{TreeLine}
 use Rattle.pesp_truth.specs.declared.tree.TreeLine.TheVariants.{Slack, Offset, Bound, Nothing, Gap, Propagated}
-use Rattle.pesp_truth.specs.Trees.{Line, are_trees}
-use Rattle.pesp_truth.specs.Certificates.{line_of}
+use Rattle.pesp_truth.specs.Trees.{Line, are_trees, line_of}
 use Rattle.pesp_cert_lines.specs.Pairs.{follows, rise_from}
 use Rattle.pesp_cert.specs.Limits.{is_branch}
 

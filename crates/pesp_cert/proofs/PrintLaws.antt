@@ -12,13 +12,13 @@ use Rattle.pesp_truth.specs.declared.answer.Answer.TheVariants as answers
 use Rattle.pesp_truth.specs.declared.tree.TreeLine.{TreeLine}
 use Rattle.pesp_truth.specs.declared.tree.TreeLine.TheVariants as lines
 use Rattle.pesp_truth.specs.Certificates.{Content}
-use Rattle.pesp_text.specs.Words.{spaced}
+use Rattle.pesp_stream.specs.Words.{spaced}
 use Rattle.pesp_cert_lines.specs.Pairs.{pair_words}
 use Rattle.pesp_cert_lines.specs.Rows.{row_words}
 use Rattle.pesp_cert_lines.specs.declared.item.Item.{Item}
 use Rattle.pesp_cert_lines.specs.declared.item.Item.TheVariants.{Version, Period, Answer as Says, Cycle, End}
 use Rattle.pesp_cert_lines.specs.Items.{item_line}
-use Rattle.pesp_cert.specs.Print.{head_lines, time_line, pairs_text, pair_text, row_text, rows_text, cycle_line, tree_line, answer_line, certificate_text}
+use Rattle.pesp_cert.specs.Print.{head_lines, time_line, pairs_text, pair_text, row_text, rows_text, cycle_line, tree_line_text, answer_line, certificate_text}
 use Rattle.pesp_cert.specs.Texts.{time_item, tree_item, spelling}
 
 one_word : (w a : List ℕ) → (w ++ ((32 ∷ a) ++ [])) ++ 10 ∷ [] ≡ ((w ++ 32 ∷ []) ++ a) ++ 10 ∷ []
@@ -69,7 +69,7 @@ time_is t = two_words (codes "time") (signed_decimal t.0) (decimal t.1)
 pub cycle_is : (rs : List SignedRow) → item_line (Cycle rs) ≡ cycle_line rs
 cycle_is rs = ap (λ (t : List ℕ). (codes "cycle" ++ t) ++ 10 ∷ []) (rows_are rs)
 
-pub tree_is : (line : TreeLine) → item_line (tree_item line) ≡ tree_line line
+pub tree_is : (line : TreeLine) → item_line (tree_item line) ≡ tree_line_text line
 tree_is (lines.Slack row k) = two_words (codes "s") (decimal row) (decimal k)
 tree_is (lines.Offset cycle k) = two_words (codes "o") (decimal cycle) (signed_decimal k)
 tree_is (lines.Bound ps) = ap (λ (t : List ℕ). (codes "b" ++ t) ++ 10 ∷ []) (pairs_are ps)
@@ -90,19 +90,19 @@ certificate_is c =
     let cs = map Cycle c.cycles in
     let others : List Item = ((ts ++ cs) ++ map tree_item c.tree) ++ End ∷ [] in
     let rest : flat_map item_line others ≡ ((flat_map time_line c.times ++ flat_map cycle_line c.cycles)
-    ++ flat_map tree_line c.tree) ++ codes "end\n" =
+    ++ flat_map tree_line_text c.tree) ++ codes "end\n" =
     rw (
       flat_map-append item_line ((ts ++ cs) ++ map tree_item c.tree) (End ∷ []),
       flat_map-append item_line (ts ++ cs) (map tree_item c.tree),
       flat_map-append item_line ts cs,
       mapped time_item time_line time_is c.times,
       mapped Cycle cycle_line cycle_is c.cycles,
-      mapped tree_item tree_line tree_is c.tree,
+      mapped tree_item tree_line_text tree_is c.tree,
     ) refl in
     let first : List ℕ = item_line (Version c.version) in
     let all : spelling None c ≡ first ++ (item_line (Period c.period)
     ++ (answer_line c.answer ++ (((flat_map time_line c.times ++ flat_map cycle_line c.cycles)
-    ++ flat_map tree_line c.tree) ++ codes "end\n"))) =
+    ++ flat_map tree_line_text c.tree) ++ codes "end\n"))) =
     flat_map-cons item_line (Version c.version) (Period c.period ∷ Says c.answer ∷ others)
     ∙ ap (λ (t : List ℕ). first ++ t) (flat_map-cons item_line (Period c.period) (Says c.answer ∷ others)
     ∙ ap (λ (t : List ℕ). item_line (Period c.period) ++ t)
@@ -110,7 +110,7 @@ certificate_is c =
     ∙ ap (λ (t : List ℕ). t ++ flat_map item_line others) (answer_is c.answer)
     ∙ ap (λ (t : List ℕ). answer_line c.answer ++ t) rest)) in
     sym (all ∙ whole_shape first (item_line (Period c.period)) (answer_line c.answer) (flat_map time_line c.times)
-    (flat_map cycle_line c.cycles) (flat_map tree_line c.tree) (codes "end\n")
+    (flat_map cycle_line c.cycles) (flat_map tree_line_text c.tree) (codes "end\n")
     ∙ ap (λ (h : List ℕ). ((((h ++ answer_line c.answer) ++ flat_map time_line c.times)
-    ++ flat_map cycle_line c.cycles) ++ flat_map tree_line c.tree) ++ codes "end\n")
+    ++ flat_map cycle_line c.cycles) ++ flat_map tree_line_text c.tree) ++ codes "end\n")
     (head_is c.version c.period))

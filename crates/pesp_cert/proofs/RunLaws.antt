@@ -12,13 +12,12 @@ use Rattle.pesp_cert_lines.specs.declared.progress.Place.TheVariants as places
 use Rattle.pesp_cert_lines.specs.declared.progress.Progress.{Progress}
 use Rattle.pesp_cert_lines.specs.declared.versions.Versions.{Versions}
 use Rattle.pesp_cert_lines.specs.declared.versions.Versions.TheVariants.{Plain, All}
-use Rattle.pesp_nets.specs.declared.marked.MarkedRow.{MarkedRow}
-use Rattle.pesp_lemma.specs.Shown.{LemmaProof}
-use Rattle.pesp_lemma.specs.Fronts.{Front as FrontOf}
-use Rattle.pesp_truth.specs.Certificates.{Content}
+use Rattle.pesp_problem.specs.declared.marked.MarkedRow.{MarkedRow}
+use Rattle.pesp_truth.specs.Shown.{LemmaProof}
+use Rattle.pesp_truth.specs.Certificates.{Front as FrontOf, Content}
 use Rattle.pesp_cert_lines.specs.declared.item.Item.{Item}
 use Rattle.pesp_cert_lines.specs.declared.item.Item.TheVariants.{Front, Scale, Walk, Lemma, Least, Version, Period, Answer as Says, Time, Cycle, Slack, Offset, Bound, Nothing, Gap, Propagated, End}
-use Rattle.pesp_cert_lines.specs.Counts.{beginning, after, may_follow, may_end, has_kind, takes_fronts, kind_in, CanStand}
+use Rattle.pesp_cert_lines.specs.Counts.{beginning, progress_after, may_follow, may_end, has_kind, takes_fronts, kind_in, CanStand}
 use Rattle.pesp_cert_lines.proofs.Tests.{and_left, and_right}
 use Rattle.pesp_cert.specs.Texts.{IsRun, time_item, tree_item, lemma_items, own_items, items_of, takes}
 use Rattle.pesp_cert.proofs.Runs.{items_shape}
@@ -75,17 +74,17 @@ tree_run p (Nothing ps ∷ []) at shown run = absurd cc
 tree_run p (Gap cycle ∷ []) at shown run = absurd cc
 tree_run p (Propagated ∷ []) at shown run = absurd cc
 tree_run p (Slack row k ∷ next ∷ more) at shown run =
-    tree_more (lines.Slack row k) (next ∷ more) (tree_run (after p (Slack row k)) (next ∷ more) refl shown run.2)
+    tree_more (lines.Slack row k) (next ∷ more) (tree_run (progress_after p (Slack row k)) (next ∷ more) refl shown run.2)
 tree_run p (Offset cycle k ∷ next ∷ more) at shown run =
-    tree_more (lines.Offset cycle k) (next ∷ more) (tree_run (after p (Offset cycle k)) (next ∷ more) refl shown run.2)
+    tree_more (lines.Offset cycle k) (next ∷ more) (tree_run (progress_after p (Offset cycle k)) (next ∷ more) refl shown run.2)
 tree_run p (Bound ps ∷ next ∷ more) at shown run = tree_more (lines.Bound ps) (next ∷ more)
-    (tree_run (after p (Bound ps)) (next ∷ more) refl shown run.2)
+    (tree_run (progress_after p (Bound ps)) (next ∷ more) refl shown run.2)
 tree_run p (Nothing ps ∷ next ∷ more) at shown run =
-    tree_more (lines.Nothing ps) (next ∷ more) (tree_run (after p (Nothing ps)) (next ∷ more) refl shown run.2)
+    tree_more (lines.Nothing ps) (next ∷ more) (tree_run (progress_after p (Nothing ps)) (next ∷ more) refl shown run.2)
 tree_run p (Gap cycle ∷ next ∷ more) at shown run = tree_more (lines.Gap cycle) (next ∷ more)
-    (tree_run (after p (Gap cycle)) (next ∷ more) refl shown run.2)
+    (tree_run (progress_after p (Gap cycle)) (next ∷ more) refl shown run.2)
 tree_run p (Propagated ∷ next ∷ more) at shown run =
-    tree_more lines.Propagated (next ∷ more) (tree_run (after p Propagated) (next ∷ more) refl shown run.2)
+    tree_more lines.Propagated (next ∷ more) (tree_run (progress_after p Propagated) (next ∷ more) refl shown run.2)
 tree_run p (End ∷ []) at shown run = ([], refl)
 tree_run p (End ∷ next ∷ more) at shown run = absurd cc
 tree_run p (item ∷ more) at shown run = absurd (other p item at shown (first p item more run) refl)
@@ -110,7 +109,7 @@ cycle_run : (p : Progress) (items : List Item) → p.place ≡ places.Cycles →
 cycle_run p [] at needs shown run = absurd run
 cycle_run p (Cycle rs ∷ []) at needs shown run = absurd cc
 cycle_run p (Cycle rs ∷ next ∷ more) at needs shown run =
-    cycle_more rs (next ∷ more) (cycle_run (after p (Cycle rs)) (next ∷ more) refl needs shown run.2)
+    cycle_more rs (next ∷ more) (cycle_run (progress_after p (Cycle rs)) (next ∷ more) refl needs shown run.2)
 cycle_run p (Slack row k ∷ []) at needs shown run = absurd cc
 cycle_run p (Offset cycle k ∷ []) at needs shown run = absurd cc
 cycle_run p (Bound ps ∷ []) at needs shown run = absurd cc
@@ -119,22 +118,22 @@ cycle_run p (Gap cycle ∷ []) at needs shown run = absurd cc
 cycle_run p (Propagated ∷ []) at needs shown run = absurd cc
 cycle_run p (Slack row k ∷ next ∷ more) at needs shown run =
     cycles_none (Slack row k ∷ next ∷ more) (tree_more (lines.Slack row k) (next ∷ more)
-    (tree_run (after p (Slack row k)) (next ∷ more) refl shown run.2))
+    (tree_run (progress_after p (Slack row k)) (next ∷ more) refl shown run.2))
 cycle_run p (Offset cycle k ∷ next ∷ more) at needs shown run =
     cycles_none (Offset cycle k ∷ next ∷ more) (tree_more (lines.Offset cycle k) (next ∷ more)
-    (tree_run (after p (Offset cycle k)) (next ∷ more) refl shown run.2))
+    (tree_run (progress_after p (Offset cycle k)) (next ∷ more) refl shown run.2))
 cycle_run p (Bound ps ∷ next ∷ more) at needs shown run =
     cycles_none (Bound ps ∷ next ∷ more) (tree_more (lines.Bound ps) (next ∷ more)
-    (tree_run (after p (Bound ps)) (next ∷ more) refl shown run.2))
+    (tree_run (progress_after p (Bound ps)) (next ∷ more) refl shown run.2))
 cycle_run p (Nothing ps ∷ next ∷ more) at needs shown run =
     cycles_none (Nothing ps ∷ next ∷ more) (tree_more (lines.Nothing ps) (next ∷ more)
-    (tree_run (after p (Nothing ps)) (next ∷ more) refl shown run.2))
+    (tree_run (progress_after p (Nothing ps)) (next ∷ more) refl shown run.2))
 cycle_run p (Gap cycle ∷ next ∷ more) at needs shown run =
     cycles_none (Gap cycle ∷ next ∷ more) (tree_more (lines.Gap cycle) (next ∷ more)
-    (tree_run (after p (Gap cycle)) (next ∷ more) refl shown run.2))
+    (tree_run (progress_after p (Gap cycle)) (next ∷ more) refl shown run.2))
 cycle_run p (Propagated ∷ next ∷ more) at needs shown run =
     cycles_none (Propagated ∷ next ∷ more) (tree_more lines.Propagated (next ∷ more)
-    (tree_run (after p Propagated) (next ∷ more) refl shown run.2))
+    (tree_run (progress_after p Propagated) (next ∷ more) refl shown run.2))
 cycle_run p (item ∷ more) at needs shown run =
     let h = follows p places.Cycles item at needs shown (first p item more run) in absurd cc
 
@@ -151,11 +150,11 @@ times_none items h = ([], h.0, h.1, h.2)
 pub time_run : (p : Progress) (items : List Item) → p.place ≡ places.Times → p.needs ≡ 1 → p.shows ≡ false → IsRun p items → TimeItems items
 time_run p [] at needs shown run = absurd run
 time_run p (Time l t ∷ []) at needs shown run = absurd cc
-time_run p (Time l t ∷ next ∷ more) at needs shown run = time_more l t (next ∷ more) (time_run (after p (Time l t)) (next ∷ more) at needs shown run.2)
+time_run p (Time l t ∷ next ∷ more) at needs shown run = time_more l t (next ∷ more) (time_run (progress_after p (Time l t)) (next ∷ more) at needs shown run.2)
 time_run p (Cycle rs ∷ []) at needs shown run = absurd cc
 time_run p (Cycle rs ∷ next ∷ more) at needs shown run =
     times_none (Cycle rs ∷ next ∷ more) (cycle_more rs (next ∷ more)
-    (cycle_run (after p (Cycle rs)) (next ∷ more) refl needs shown run.2))
+    (cycle_run (progress_after p (Cycle rs)) (next ∷ more) refl needs shown run.2))
 time_run p (Slack row k ∷ []) at needs shown run = absurd cc
 time_run p (Offset cycle k ∷ []) at needs shown run = absurd cc
 time_run p (Bound ps ∷ []) at needs shown run = absurd cc
@@ -164,22 +163,22 @@ time_run p (Gap cycle ∷ []) at needs shown run = absurd cc
 time_run p (Propagated ∷ []) at needs shown run = absurd cc
 time_run p (Slack row k ∷ next ∷ more) at needs shown run =
     times_none (Slack row k ∷ next ∷ more) (cycles_none (Slack row k ∷ next ∷ more)
-    (tree_more (lines.Slack row k) (next ∷ more) (tree_run (after p (Slack row k)) (next ∷ more) refl shown run.2)))
+    (tree_more (lines.Slack row k) (next ∷ more) (tree_run (progress_after p (Slack row k)) (next ∷ more) refl shown run.2)))
 time_run p (Offset cycle k ∷ next ∷ more) at needs shown run =
     times_none (Offset cycle k ∷ next ∷ more) (cycles_none (Offset cycle k ∷ next ∷ more)
-    (tree_more (lines.Offset cycle k) (next ∷ more) (tree_run (after p (Offset cycle k)) (next ∷ more) refl shown run.2)))
+    (tree_more (lines.Offset cycle k) (next ∷ more) (tree_run (progress_after p (Offset cycle k)) (next ∷ more) refl shown run.2)))
 time_run p (Bound ps ∷ next ∷ more) at needs shown run =
     times_none (Bound ps ∷ next ∷ more) (cycles_none (Bound ps ∷ next ∷ more)
-    (tree_more (lines.Bound ps) (next ∷ more) (tree_run (after p (Bound ps)) (next ∷ more) refl shown run.2)))
+    (tree_more (lines.Bound ps) (next ∷ more) (tree_run (progress_after p (Bound ps)) (next ∷ more) refl shown run.2)))
 time_run p (Nothing ps ∷ next ∷ more) at needs shown run =
     times_none (Nothing ps ∷ next ∷ more) (cycles_none (Nothing ps ∷ next ∷ more)
-    (tree_more (lines.Nothing ps) (next ∷ more) (tree_run (after p (Nothing ps)) (next ∷ more) refl shown run.2)))
+    (tree_more (lines.Nothing ps) (next ∷ more) (tree_run (progress_after p (Nothing ps)) (next ∷ more) refl shown run.2)))
 time_run p (Gap cycle ∷ next ∷ more) at needs shown run =
     times_none (Gap cycle ∷ next ∷ more) (cycles_none (Gap cycle ∷ next ∷ more)
-    (tree_more (lines.Gap cycle) (next ∷ more) (tree_run (after p (Gap cycle)) (next ∷ more) refl shown run.2)))
+    (tree_more (lines.Gap cycle) (next ∷ more) (tree_run (progress_after p (Gap cycle)) (next ∷ more) refl shown run.2)))
 time_run p (Propagated ∷ next ∷ more) at needs shown run =
     times_none (Propagated ∷ next ∷ more) (cycles_none (Propagated ∷ next ∷ more)
-    (tree_more lines.Propagated (next ∷ more) (tree_run (after p Propagated) (next ∷ more) refl shown run.2)))
+    (tree_more lines.Propagated (next ∷ more) (tree_run (progress_after p Propagated) (next ∷ more) refl shown run.2)))
 time_run p (item ∷ more) at needs shown run =
     let h = follows p places.Times item at needs shown (first p item more run) in absurd cc
 
@@ -196,7 +195,7 @@ answer_run : (p : Progress) (v n : ℕ) (items : List Item) → p.place ≡ plac
     → (c : Content) × (Version v ∷ Period n ∷ items ≡ own_items c)
 answer_run p v n [] at needs shown run = absurd run
 answer_run p v n (Says a ∷ []) at needs shown run = absurd cc
-answer_run p v n (Says a ∷ next ∷ more) at needs shown run = made v n a (next ∷ more) (time_run (after p (Says a)) (next ∷ more) refl needs shown run.2)
+answer_run p v n (Says a ∷ next ∷ more) at needs shown run = made v n a (next ∷ more) (time_run (progress_after p (Says a)) (next ∷ more) refl needs shown run.2)
 answer_run p v n (item ∷ more) at needs shown run =
     let h = follows p places.Period item at needs shown (first p item more run) in absurd cc
 
@@ -204,7 +203,7 @@ period_run : (p : Progress) (v : ℕ) (items : List Item) → p.place ≡ places
     → (c : Content) × (Version v ∷ items ≡ own_items c)
 period_run p v [] at needs shown run = absurd run
 period_run p v (Period n ∷ []) at needs shown run = absurd cc
-period_run p v (Period n ∷ next ∷ more) at needs shown run = answer_run (after p (Period n)) v n (next ∷ more) refl needs shown run.2
+period_run p v (Period n ∷ next ∷ more) at needs shown run = answer_run (progress_after p (Period n)) v n (next ∷ more) refl needs shown run.2
 period_run p v (item ∷ more) at needs shown run =
     let h = follows p places.Header item at needs shown (first p item more run) in absurd cc
 
@@ -364,7 +363,7 @@ shown_run p (Least n ∷ []) places.Lemma at needs shown run = absurd cc
 shown_run p (Least n ∷ next ∷ more) places.Lemma at needs shown run = record {
   least = n;
   behind = next ∷ more;
-  rest = shown_run (after p (Least n)) (next ∷ more) places.Least refl needs shown run.2;
+  rest = shown_run (progress_after p (Least n)) (next ∷ more) places.Least refl needs shown run.2;
   is = refl;
 }
 shown_run p (item ∷ more) places.Lemma at needs shown run =
@@ -374,84 +373,84 @@ shown_run p (Scale d ∷ []) places.Least at needs shown run = absurd cc
 shown_run p (Scale d ∷ next ∷ more) places.Least at needs shown run = record {
   scale = d;
   behind = next ∷ more;
-  rest = shown_run (after p (Scale d)) (next ∷ more) places.Walks refl needs shown run.2;
+  rest = shown_run (progress_after p (Scale d)) (next ∷ more) places.Walks refl needs shown run.2;
   is = refl;
 }
 shown_run p (item ∷ more) places.Least at needs shown run =
     let h = leads p places.Least item at needs shown (first p item more run) in absurd cc
 shown_run p [] places.Walks at needs shown run = absurd run
 shown_run p (Walk walk ∷ []) places.Walks at needs shown run = absurd cc
-shown_run p (Walk walk ∷ next ∷ more) places.Walks at needs shown run = one_walk walk (next ∷ more) (shown_run (after p (Walk walk)) (next ∷ more) places.Walks refl needs shown run.2)
+shown_run p (Walk walk ∷ next ∷ more) places.Walks at needs shown run = one_walk walk (next ∷ more) (shown_run (progress_after p (Walk walk)) (next ∷ more) places.Walks refl needs shown run.2)
 shown_run p (Cycle rs ∷ []) places.Walks at needs shown run = absurd cc
-shown_run p (Cycle rs ∷ next ∷ more) places.Walks at needs shown run = no_walk (Cycle rs ∷ next ∷ more) (one_cycle rs (next ∷ more) (shown_run (after p (Cycle rs)) (next ∷ more) places.Cycles refl needs shown run.2))
+shown_run p (Cycle rs ∷ next ∷ more) places.Walks at needs shown run = no_walk (Cycle rs ∷ next ∷ more) (one_cycle rs (next ∷ more) (shown_run (progress_after p (Cycle rs)) (next ∷ more) places.Cycles refl needs shown run.2))
 shown_run p (Slack row k ∷ []) places.Walks at needs shown run = absurd cc
 shown_run p (Slack row k ∷ next ∷ more) places.Walks at needs shown run =
-    no_walk (Slack row k ∷ next ∷ more) (no_cycle (Slack row k ∷ next ∷ more) (line_more (lines.Slack row k) (next ∷ more) (shown_run (after p (Slack row k)) (next ∷ more) places.Tree refl tt shown run.2)))
+    no_walk (Slack row k ∷ next ∷ more) (no_cycle (Slack row k ∷ next ∷ more) (line_more (lines.Slack row k) (next ∷ more) (shown_run (progress_after p (Slack row k)) (next ∷ more) places.Tree refl tt shown run.2)))
 shown_run p (Offset cycle k ∷ []) places.Walks at needs shown run = absurd cc
 shown_run p (Offset cycle k ∷ next ∷ more) places.Walks at needs shown run =
-    no_walk (Offset cycle k ∷ next ∷ more) (no_cycle (Offset cycle k ∷ next ∷ more) (line_more (lines.Offset cycle k) (next ∷ more) (shown_run (after p (Offset cycle k)) (next ∷ more) places.Tree refl tt shown run.2)))
+    no_walk (Offset cycle k ∷ next ∷ more) (no_cycle (Offset cycle k ∷ next ∷ more) (line_more (lines.Offset cycle k) (next ∷ more) (shown_run (progress_after p (Offset cycle k)) (next ∷ more) places.Tree refl tt shown run.2)))
 shown_run p (Bound ps ∷ []) places.Walks at needs shown run = absurd cc
 shown_run p (Bound ps ∷ next ∷ more) places.Walks at needs shown run =
-    no_walk (Bound ps ∷ next ∷ more) (no_cycle (Bound ps ∷ next ∷ more) (line_more (lines.Bound ps) (next ∷ more) (shown_run (after p (Bound ps)) (next ∷ more) places.Tree refl tt shown run.2)))
+    no_walk (Bound ps ∷ next ∷ more) (no_cycle (Bound ps ∷ next ∷ more) (line_more (lines.Bound ps) (next ∷ more) (shown_run (progress_after p (Bound ps)) (next ∷ more) places.Tree refl tt shown run.2)))
 shown_run p (Nothing ps ∷ []) places.Walks at needs shown run = absurd cc
 shown_run p (Nothing ps ∷ next ∷ more) places.Walks at needs shown run =
-    no_walk (Nothing ps ∷ next ∷ more) (no_cycle (Nothing ps ∷ next ∷ more) (line_more (lines.Nothing ps) (next ∷ more) (shown_run (after p (Nothing ps)) (next ∷ more) places.Tree refl tt shown run.2)))
+    no_walk (Nothing ps ∷ next ∷ more) (no_cycle (Nothing ps ∷ next ∷ more) (line_more (lines.Nothing ps) (next ∷ more) (shown_run (progress_after p (Nothing ps)) (next ∷ more) places.Tree refl tt shown run.2)))
 shown_run p (Gap cycle ∷ []) places.Walks at needs shown run = absurd cc
 shown_run p (Gap cycle ∷ next ∷ more) places.Walks at needs shown run =
-    no_walk (Gap cycle ∷ next ∷ more) (no_cycle (Gap cycle ∷ next ∷ more) (line_more (lines.Gap cycle) (next ∷ more) (shown_run (after p (Gap cycle)) (next ∷ more) places.Tree refl tt shown run.2)))
+    no_walk (Gap cycle ∷ next ∷ more) (no_cycle (Gap cycle ∷ next ∷ more) (line_more (lines.Gap cycle) (next ∷ more) (shown_run (progress_after p (Gap cycle)) (next ∷ more) places.Tree refl tt shown run.2)))
 shown_run p (Propagated ∷ []) places.Walks at needs shown run = absurd cc
 shown_run p (Propagated ∷ next ∷ more) places.Walks at needs shown run =
-    no_walk (Propagated ∷ next ∷ more) (no_cycle (Propagated ∷ next ∷ more) (line_more lines.Propagated (next ∷ more) (shown_run (after p Propagated) (next ∷ more) places.Tree refl tt shown run.2)))
+    no_walk (Propagated ∷ next ∷ more) (no_cycle (Propagated ∷ next ∷ more) (line_more lines.Propagated (next ∷ more) (shown_run (progress_after p Propagated) (next ∷ more) places.Tree refl tt shown run.2)))
 shown_run p (item ∷ more) places.Walks at needs shown run =
     let h = leads p places.Walks item at needs shown (first p item more run) in absurd cc
 shown_run p [] places.Cycles at needs shown run = absurd run
 shown_run p (Cycle rs ∷ []) places.Cycles at needs shown run = absurd cc
-shown_run p (Cycle rs ∷ next ∷ more) places.Cycles at needs shown run = one_cycle rs (next ∷ more) (shown_run (after p (Cycle rs)) (next ∷ more) places.Cycles refl needs shown run.2)
+shown_run p (Cycle rs ∷ next ∷ more) places.Cycles at needs shown run = one_cycle rs (next ∷ more) (shown_run (progress_after p (Cycle rs)) (next ∷ more) places.Cycles refl needs shown run.2)
 shown_run p (Slack row k ∷ []) places.Cycles at needs shown run = absurd cc
 shown_run p (Slack row k ∷ next ∷ more) places.Cycles at needs shown run =
-    no_cycle (Slack row k ∷ next ∷ more) (line_more (lines.Slack row k) (next ∷ more) (shown_run (after p (Slack row k)) (next ∷ more) places.Tree refl tt shown run.2))
+    no_cycle (Slack row k ∷ next ∷ more) (line_more (lines.Slack row k) (next ∷ more) (shown_run (progress_after p (Slack row k)) (next ∷ more) places.Tree refl tt shown run.2))
 shown_run p (Offset cycle k ∷ []) places.Cycles at needs shown run = absurd cc
 shown_run p (Offset cycle k ∷ next ∷ more) places.Cycles at needs shown run =
-    no_cycle (Offset cycle k ∷ next ∷ more) (line_more (lines.Offset cycle k) (next ∷ more) (shown_run (after p (Offset cycle k)) (next ∷ more) places.Tree refl tt shown run.2))
+    no_cycle (Offset cycle k ∷ next ∷ more) (line_more (lines.Offset cycle k) (next ∷ more) (shown_run (progress_after p (Offset cycle k)) (next ∷ more) places.Tree refl tt shown run.2))
 shown_run p (Bound ps ∷ []) places.Cycles at needs shown run = absurd cc
 shown_run p (Bound ps ∷ next ∷ more) places.Cycles at needs shown run =
-    no_cycle (Bound ps ∷ next ∷ more) (line_more (lines.Bound ps) (next ∷ more) (shown_run (after p (Bound ps)) (next ∷ more) places.Tree refl tt shown run.2))
+    no_cycle (Bound ps ∷ next ∷ more) (line_more (lines.Bound ps) (next ∷ more) (shown_run (progress_after p (Bound ps)) (next ∷ more) places.Tree refl tt shown run.2))
 shown_run p (Nothing ps ∷ []) places.Cycles at needs shown run = absurd cc
 shown_run p (Nothing ps ∷ next ∷ more) places.Cycles at needs shown run =
-    no_cycle (Nothing ps ∷ next ∷ more) (line_more (lines.Nothing ps) (next ∷ more) (shown_run (after p (Nothing ps)) (next ∷ more) places.Tree refl tt shown run.2))
+    no_cycle (Nothing ps ∷ next ∷ more) (line_more (lines.Nothing ps) (next ∷ more) (shown_run (progress_after p (Nothing ps)) (next ∷ more) places.Tree refl tt shown run.2))
 shown_run p (Gap cycle ∷ []) places.Cycles at needs shown run = absurd cc
 shown_run p (Gap cycle ∷ next ∷ more) places.Cycles at needs shown run =
-    no_cycle (Gap cycle ∷ next ∷ more) (line_more (lines.Gap cycle) (next ∷ more) (shown_run (after p (Gap cycle)) (next ∷ more) places.Tree refl tt shown run.2))
+    no_cycle (Gap cycle ∷ next ∷ more) (line_more (lines.Gap cycle) (next ∷ more) (shown_run (progress_after p (Gap cycle)) (next ∷ more) places.Tree refl tt shown run.2))
 shown_run p (Propagated ∷ []) places.Cycles at needs shown run = absurd cc
 shown_run p (Propagated ∷ next ∷ more) places.Cycles at needs shown run =
-    no_cycle (Propagated ∷ next ∷ more) (line_more lines.Propagated (next ∷ more) (shown_run (after p Propagated) (next ∷ more) places.Tree refl tt shown run.2))
+    no_cycle (Propagated ∷ next ∷ more) (line_more lines.Propagated (next ∷ more) (shown_run (progress_after p Propagated) (next ∷ more) places.Tree refl tt shown run.2))
 shown_run p (item ∷ more) places.Cycles at needs shown run =
     let h = leads p places.Cycles item at needs shown (first p item more run) in absurd cc
 shown_run p [] places.Tree at needs shown run = absurd run
 shown_run p (Lemma ps ∷ []) places.Tree at needs shown run = absurd cc
 shown_run p (Lemma ps ∷ next ∷ more) places.Tree at needs shown run =
-    no_line (Lemma ps ∷ next ∷ more) (one_lemma ps (next ∷ more) (shown_run (after p (Lemma ps)) (next ∷ more) places.Lemma refl refl refl run.2))
+    no_line (Lemma ps ∷ next ∷ more) (one_lemma ps (next ∷ more) (shown_run (progress_after p (Lemma ps)) (next ∷ more) places.Lemma refl refl refl run.2))
 shown_run p (Version v ∷ []) places.Tree at needs shown run = absurd cc
 shown_run p (Version v ∷ next ∷ more) places.Tree at needs shown run =
-    no_line (Version v ∷ next ∷ more) (no_lemma (Version v ∷ next ∷ more) (period_run (after p (Version v)) v (next ∷ more) refl refl refl run.2))
+    no_line (Version v ∷ next ∷ more) (no_lemma (Version v ∷ next ∷ more) (period_run (progress_after p (Version v)) v (next ∷ more) refl refl refl run.2))
 shown_run p (Slack row k ∷ []) places.Tree at needs shown run = absurd cc
 shown_run p (Slack row k ∷ next ∷ more) places.Tree at needs shown run =
-    line_more (lines.Slack row k) (next ∷ more) (shown_run (after p (Slack row k)) (next ∷ more) places.Tree refl tt shown run.2)
+    line_more (lines.Slack row k) (next ∷ more) (shown_run (progress_after p (Slack row k)) (next ∷ more) places.Tree refl tt shown run.2)
 shown_run p (Offset cycle k ∷ []) places.Tree at needs shown run = absurd cc
 shown_run p (Offset cycle k ∷ next ∷ more) places.Tree at needs shown run =
-    line_more (lines.Offset cycle k) (next ∷ more) (shown_run (after p (Offset cycle k)) (next ∷ more) places.Tree refl tt shown run.2)
+    line_more (lines.Offset cycle k) (next ∷ more) (shown_run (progress_after p (Offset cycle k)) (next ∷ more) places.Tree refl tt shown run.2)
 shown_run p (Bound ps ∷ []) places.Tree at needs shown run = absurd cc
 shown_run p (Bound ps ∷ next ∷ more) places.Tree at needs shown run =
-    line_more (lines.Bound ps) (next ∷ more) (shown_run (after p (Bound ps)) (next ∷ more) places.Tree refl tt shown run.2)
+    line_more (lines.Bound ps) (next ∷ more) (shown_run (progress_after p (Bound ps)) (next ∷ more) places.Tree refl tt shown run.2)
 shown_run p (Nothing ps ∷ []) places.Tree at needs shown run = absurd cc
 shown_run p (Nothing ps ∷ next ∷ more) places.Tree at needs shown run =
-    line_more (lines.Nothing ps) (next ∷ more) (shown_run (after p (Nothing ps)) (next ∷ more) places.Tree refl tt shown run.2)
+    line_more (lines.Nothing ps) (next ∷ more) (shown_run (progress_after p (Nothing ps)) (next ∷ more) places.Tree refl tt shown run.2)
 shown_run p (Gap cycle ∷ []) places.Tree at needs shown run = absurd cc
 shown_run p (Gap cycle ∷ next ∷ more) places.Tree at needs shown run =
-    line_more (lines.Gap cycle) (next ∷ more) (shown_run (after p (Gap cycle)) (next ∷ more) places.Tree refl tt shown run.2)
+    line_more (lines.Gap cycle) (next ∷ more) (shown_run (progress_after p (Gap cycle)) (next ∷ more) places.Tree refl tt shown run.2)
 shown_run p (Propagated ∷ []) places.Tree at needs shown run = absurd cc
 shown_run p (Propagated ∷ next ∷ more) places.Tree at needs shown run =
-    line_more lines.Propagated (next ∷ more) (shown_run (after p Propagated) (next ∷ more) places.Tree refl tt shown run.2)
+    line_more lines.Propagated (next ∷ more) (shown_run (progress_after p Propagated) (next ∷ more) places.Tree refl tt shown run.2)
 shown_run p (item ∷ more) places.Tree at needs shown run = absurd (outside p item at shown (first p item more run) refl)
 
 -- ---- the front
@@ -478,13 +477,13 @@ walk_run : (p : Progress) (items : List Item) → p.place ≡ places.Walks → p
 walk_run p [] at needs shown run = absurd run
 walk_run p (Walk walk ∷ []) at needs shown run = absurd cc
 walk_run p (Walk walk ∷ next ∷ more) at needs shown run =
-    walk_more walk (next ∷ more) (walk_run (after p (Walk walk)) (next ∷ more) refl needs shown run.2)
+    walk_more walk (next ∷ more) (walk_run (progress_after p (Walk walk)) (next ∷ more) refl needs shown run.2)
 walk_run p (Lemma ps ∷ []) at needs shown run = absurd cc
 walk_run p (Lemma ps ∷ next ∷ more) at needs shown run =
-    walks_none (Lemma ps ∷ next ∷ more) (one_lemma ps (next ∷ more) (shown_run (after p (Lemma ps)) (next ∷ more) places.Lemma refl refl refl run.2))
+    walks_none (Lemma ps ∷ next ∷ more) (one_lemma ps (next ∷ more) (shown_run (progress_after p (Lemma ps)) (next ∷ more) places.Lemma refl refl refl run.2))
 walk_run p (Version v ∷ []) at needs shown run = absurd cc
 walk_run p (Version v ∷ next ∷ more) at needs shown run =
-    walks_none (Version v ∷ next ∷ more) (no_lemma (Version v ∷ next ∷ more) (period_run (after p (Version v)) v (next ∷ more) refl refl refl run.2))
+    walks_none (Version v ∷ next ∷ more) (no_lemma (Version v ∷ next ∷ more) (period_run (progress_after p (Version v)) v (next ∷ more) refl refl refl run.2))
 walk_run p (item ∷ more) at needs shown run =
     let h = follows p places.Walks item at needs shown (first p item more run) in absurd cc
 
@@ -506,7 +505,7 @@ marked n items r =
 scale_run : (p : Progress) (items : List Item) → p.place ≡ places.Marked → p.needs ≡ 1 → p.shows ≡ false → IsRun p items → FrontItems items
 scale_run p [] at needs shown run = absurd run
 scale_run p (Scale n ∷ []) at needs shown run = absurd cc
-scale_run p (Scale n ∷ next ∷ more) at needs shown run = marked n (next ∷ more) (walk_run (after p (Scale n)) (next ∷ more) refl needs shown run.2)
+scale_run p (Scale n ∷ next ∷ more) at needs shown run = marked n (next ∷ more) (walk_run (progress_after p (Scale n)) (next ∷ more) refl needs shown run.2)
 scale_run p (item ∷ more) at needs shown run =
     let h = follows p places.Marked item at needs shown (first p item more run) in absurd cc
 
@@ -535,10 +534,10 @@ pub run_content : (versions : Versions) (items : List Item) → IsRun (beginning
 run_content versions [] run = absurd run
 run_content versions (Version v ∷ []) run = absurd cc
 run_content versions (Version v ∷ next ∷ more) run =
-    without versions (Version v ∷ next ∷ more) (period_run (after (beginning versions) (Version v)) v (next ∷ more) refl refl refl run.2)
+    without versions (Version v ∷ next ∷ more) (period_run (progress_after (beginning versions) (Version v)) v (next ∷ more) refl refl refl run.2)
 run_content versions (Front ∷ []) run = absurd cc
 run_content versions (Front ∷ next ∷ more) run =
     behind_front versions (next ∷ more) (known (beginning versions) places.Front Front refl refl refl run.0)
-    (scale_run (after (beginning versions) Front) (next ∷ more) refl refl refl run.2)
+    (scale_run (progress_after (beginning versions) Front) (next ∷ more) refl refl refl run.2)
 run_content versions (item ∷ more) run =
     let h = follows (beginning versions) places.Front item refl refl refl (first (beginning versions) item more run) in absurd cc

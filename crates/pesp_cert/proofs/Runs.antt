@@ -10,8 +10,8 @@ use Rattle.pesp_truth.specs.declared.answer.Answer.{Answer}
 use Rattle.pesp_truth.specs.declared.answer.Answer.TheVariants as answers
 use Rattle.pesp_truth.specs.declared.tree.TreeLine.{TreeLine}
 use Rattle.pesp_truth.specs.declared.tree.TreeLine.TheVariants as lines
-use Rattle.pesp_truth.specs.Trees.{Line, are_trees}
-use Rattle.pesp_truth.specs.Certificates.{Content, line_of}
+use Rattle.pesp_truth.specs.Trees.{Line, are_trees, line_of}
+use Rattle.pesp_truth.specs.Certificates.{Content}
 use Rattle.pesp_cert_lines.specs.declared.kind.Kind.{Kind}
 use Rattle.pesp_cert_lines.specs.declared.kind.Kind.TheVariants as kinds
 use Rattle.pesp_cert_lines.specs.declared.item.Item.{Item}
@@ -24,16 +24,16 @@ use Rattle.pesp_cert_lines.specs.declared.versions.Versions.TheVariants.{All}
 use Rattle.pesp_cert_lines.specs.Rows.{rows_are_named}
 use Rattle.pesp_cert_lines.specs.Pairs.{rise_from, all_within}
 use Rattle.pesp_cert_lines.specs.Items.{IsProper, HasProperCosts, is_item_within}
-use Rattle.pesp_cert_lines.specs.Counts.{beginning, after, after_tree, allows, may_follow, may_end, has_kind, keeps_counts, kind_in, CanStand}
+use Rattle.pesp_cert_lines.specs.Counts.{beginning, progress_after, after_tree, allows, may_follow, may_end, has_kind, keeps_counts, kind_in, CanStand}
 use Rattle.pesp_cert_lines.proofs.Tests.{and_left, and_right, and_both}
-use Rattle.pesp_cert.specs.Limits.{has_costs, is_period, is_time, are_times, is_cycle, total_rows, are_cycles, is_line, is_branch, pairs_in, total_pairs, are_lines, has_line, has_lines, keeps_limits, KeepsLimits}
+use Rattle.pesp_cert.specs.Limits.{has_costs, is_period, is_time, are_times, is_cycle, total_rows, are_cycles, line_keeps_limits, is_branch, count_pairs, total_pairs, are_lines, has_line, has_lines, keeps_limits, ContentKeepsLimits}
 use Rattle.pesp_cert.specs.Texts.{is_end, IsRun, HasText, own_items, time_item, tree_item}
 use Rattle.pesp_cert.proofs.LimitFacts.{limits_of}
 
 -- ---- one item and the others
 
 pub run_onto : (p : Progress) (item : Item) (rest : List Item) → CanStand p item → is_end item ≡ false
-    → IsRun (after p item) rest → IsRun p (item ∷ rest)
+    → IsRun (progress_after p item) rest → IsRun p (item ∷ rest)
 run_onto p item [] can e h = absurd h
 run_onto p item (next ∷ more) can e h = (can, e, h)
 
@@ -41,7 +41,7 @@ pub run_first : (p : Progress) (item : Item) (rest : List Item) → IsRun p (ite
 run_first p item [] run = run.0
 run_first p item (next ∷ more) run = run.0
 
-pub run_rest : (p : Progress) (item : Item) (rest : List Item) → is_end item ≡ false → IsRun p (item ∷ rest) → IsRun (after p item) rest
+pub run_rest : (p : Progress) (item : Item) (rest : List Item) → is_end item ≡ false → IsRun p (item ∷ rest) → IsRun (progress_after p item) rest
 run_rest p item [] e run = let bad : true ≡ false = sym run.1 ∙ e in cc
 run_rest p item (next ∷ more) e run = run.2
 
@@ -59,7 +59,7 @@ proper_costs answers.Infeasible h = refl
 proper_costs (answers.Bounded least None) h = grind (arith, nat_tests, h.0)
 proper_costs (answers.Bounded least (Some c)) h = grind (arith, nat_tests, h.0, h.1)
 
-line_proper : (line : TreeLine) → is_line line ≡ true → IsProper (tree_item line)
+line_proper : (line : TreeLine) → line_keeps_limits line ≡ true → IsProper (tree_item line)
 line_proper (lines.Slack row k) h = tt
 line_proper (lines.Offset cycle k) h = tt
 line_proper (lines.Bound ps) h = and_left (rise_from 0 ps) (all_within ps) h
@@ -67,7 +67,7 @@ line_proper (lines.Nothing ps) h = and_left (rise_from 0 ps) (all_within ps) h
 line_proper (lines.Gap cycle) h = tt
 line_proper lines.Propagated h = tt
 
-line_within : (line : TreeLine) → is_line line ≡ true → is_item_within (tree_item line) ≡ true
+line_within : (line : TreeLine) → line_keeps_limits line ≡ true → is_item_within (tree_item line) ≡ true
 line_within (lines.Slack row k) h = h
 line_within (lines.Offset cycle k) h = h
 line_within (lines.Bound ps) h = and_right (rise_from 0 ps) (all_within ps) h
@@ -75,7 +75,7 @@ line_within (lines.Nothing ps) h = and_right (rise_from 0 ps) (all_within ps) h
 line_within (lines.Gap cycle) h = h
 line_within lines.Propagated h = h
 
-proper_line : (line : TreeLine) → IsProper (tree_item line) → is_item_within (tree_item line) ≡ true → is_line line ≡ true
+proper_line : (line : TreeLine) → IsProper (tree_item line) → is_item_within (tree_item line) ≡ true → line_keeps_limits line ≡ true
 proper_line (lines.Slack row k) h w = w
 proper_line (lines.Offset cycle k) h w = w
 proper_line (lines.Bound ps) h w = and_both (rise_from 0 ps) (all_within ps) h w
@@ -119,7 +119,7 @@ in_tree v place needs times cycles rows lines pairs =
 abbrev parts_in : TreeLine → ℕ
 parts_in line = cond (is_branch line) 2 0
 
-after_line : (p : Progress) (line : TreeLine) → after p (tree_item line) ≡ after_tree p (parts_in line) (pairs_in line)
+after_line : (p : Progress) (line : TreeLine) → progress_after p (tree_item line) ≡ after_tree p (parts_in line) (count_pairs line)
 after_line p (lines.Slack row k) = refl
 after_line p (lines.Offset cycle k) = refl
 after_line p (lines.Bound ps) = refl
@@ -266,7 +266,7 @@ allows_line true w v place shows line h = let bad : false ≡ true = sym (not_en
 allows_line false w v place shows line h = refl
 
 pub tree_gives : (v : Base) (ls : List TreeLine) (place : Place) (needs times cycles rows lines pairs : ℕ) (more : List Item)
-    → may_follow place v.shows kinds.Gap ≡ true → are_trees needs (map line_of ls) ≡ true → list_all is_line ls ≡ true
+    → may_follow place v.shows kinds.Gap ≡ true → are_trees needs (map line_of ls) ≡ true → list_all line_keeps_limits ls ≡ true
     → list_all (knows v) ls ≡ true → Fit times cycles rows (lines + length ls) (pairs + total_pairs ls)
     → ((last : Place) → IsRun (in_tree v last 0 times cycles rows (lines + length ls) (pairs + total_pairs ls)) more)
     → IsRun (in_tree v place needs times cycles rows lines pairs) (map tree_item ls ++ more)
@@ -278,11 +278,11 @@ tree_gives v [] place needs times cycles rows lines pairs more follows whole eac
 tree_gives v (line ∷ ls) place zero times cycles rows lines pairs more follows whole each known fit others = absurd cc
 tree_gives v (line ∷ ls) place (suc n) times cycles rows lines pairs more follows whole each known fit others =
     let p : Progress = in_tree v place (suc n) times cycles rows lines pairs in
-    let one = and_left (is_line line) (list_all is_line ls) each in
-    let total : total_pairs (line ∷ ls) ≡ pairs_in line + total_pairs ls = sum_by-cons pairs_in line ls in
+    let one = and_left (line_keeps_limits line) (list_all line_keeps_limits ls) each in
+    let total : total_pairs (line ∷ ls) ≡ count_pairs line + total_pairs ls = sum_by-cons count_pairs line ls in
     let few : lines + 1 ≤ 1000000 = omega (arith, fit.few_lines) in
-    let few_pairs : pairs + pairs_in line ≤ 20000000 = omega (arith, fit.few_pairs, total) in
-    let later : Fit times cycles rows (lines + 1 + length ls) (pairs + pairs_in line + total_pairs ls) =
+    let few_pairs : pairs + count_pairs line ≤ 20000000 = omega (arith, fit.few_pairs, total) in
+    let later : Fit times cycles rows (lines + 1 + length ls) (pairs + count_pairs line + total_pairs ls) =
     record {
       few_times = fit.few_times;
       few_cycles = fit.few_cycles;
@@ -291,10 +291,10 @@ tree_gives v (line ∷ ls) place (suc n) times cycles rows lines pairs more foll
       few_pairs = omega (arith, fit.few_pairs, total);
     } in
     let l : lines + length (line ∷ ls) ≡ lines + 1 + length ls = omega arith in
-    let t : pairs + total_pairs (line ∷ ls) ≡ pairs + pairs_in line + total_pairs ls = omega (arith, total) in
+    let t : pairs + total_pairs (line ∷ ls) ≡ pairs + count_pairs line + total_pairs ls = omega (arith, total) in
     let run = tree_gives v ls places.Tree (suc n + parts_in line - 1) times cycles rows (lines + 1)
-    (pairs + pairs_in line) more refl (sym (trees_step n line (map line_of ls)) ∙ whole)
-    (and_right (is_line line) (list_all is_line ls) each)
+    (pairs + count_pairs line) more refl (sym (trees_step n line (map line_of ls)) ∙ whole)
+    (and_right (line_keeps_limits line) (list_all line_keeps_limits ls) each)
     (and_right (knows v line) (list_all (knows v) ls) known) later (λ last. rw (l, t) at (others last)) in
     let can : CanStand p (tree_item line) = record {
       allowed = allows_next p (kind_in (tree_item line)) (omega arith) (line_follows place v.shows line follows)
@@ -302,14 +302,14 @@ tree_gives v (line ∷ ls) place (suc n) times cycles rows lines pairs more foll
       proper = line_proper line one;
       within = line_within line one;
       counts = rw (after_line p line) (counts_fit v places.Tree (suc n + parts_in line - 1) times cycles rows
-          (lines + 1) (pairs + pairs_in line) fit.few_times fit.few_cycles fit.few_rows few few_pairs);
+          (lines + 1) (pairs + count_pairs line) fit.few_times fit.few_cycles fit.few_rows few few_pairs);
     } in
     run_onto p (tree_item line) (map tree_item ls ++ more) can (line_goes line) (rw (after_line p line) run)
 
 -- what a run of lines says of them, and the run behind them
 pub record IsTree (v : Base) (ls : List TreeLine) (needs times cycles rows lines pairs : ℕ) (more : List Item) : Type 0 where
   pub whole : are_trees needs (map line_of ls) ≡ true
-  pub each : list_all is_line ls ≡ true
+  pub each : list_all line_keeps_limits ls ≡ true
   pub known : list_all (knows v) ls ≡ true
   pub fit : Fit times cycles rows (lines + length ls) (pairs + total_pairs ls)
   pub last : Place
@@ -377,16 +377,16 @@ tree_takes v (line ∷ ls) place (suc n) times cycles rows lines pairs item more
     let p : Progress = in_tree v place (suc n) times cycles rows lines pairs in
     let can = run_first p (tree_item line) (map tree_item ls ++ item ∷ more) run in
     let rest = run_rest p (tree_item line) (map tree_item ls ++ item ∷ more) (line_goes line) run in
-    let fits = fit_counts v places.Tree (suc n + parts_in line - 1) times cycles rows (lines + 1) (pairs + pairs_in line)
+    let fits = fit_counts v places.Tree (suc n + parts_in line - 1) times cycles rows (lines + 1) (pairs + count_pairs line)
     (rw (after_line p line) at can.counts) in
     let later = tree_takes v ls places.Tree (suc n + parts_in line - 1) times cycles rows (lines + 1)
-    (pairs + pairs_in line) item more refl ends fits (rw (after_line p line) at rest) in
-    let total : total_pairs (line ∷ ls) ≡ pairs_in line + total_pairs ls = sum_by-cons pairs_in line ls in
+    (pairs + count_pairs line) item more refl ends fits (rw (after_line p line) at rest) in
+    let total : total_pairs (line ∷ ls) ≡ count_pairs line + total_pairs ls = sum_by-cons count_pairs line ls in
     let l : lines + length (line ∷ ls) ≡ lines + 1 + length ls = omega arith in
-    let t : pairs + total_pairs (line ∷ ls) ≡ pairs + pairs_in line + total_pairs ls = omega (arith, total) in
+    let t : pairs + total_pairs (line ∷ ls) ≡ pairs + count_pairs line + total_pairs ls = omega (arith, total) in
     record {
       whole = trees_step n line (map line_of ls) ∙ later.whole;
-      each = and_both (is_line line) (list_all is_line ls) (proper_line line can.proper can.within) later.each;
+      each = and_both (line_keeps_limits line) (list_all line_keeps_limits ls) (proper_line line can.proper can.within) later.each;
       known = and_both (knows v line) (list_all (knows v) ls) (known_next p (kind_in (tree_item line)) (omega arith) can.allowed) later.known;
       fit = record {
         few_times = later.fit.few_times;
@@ -562,7 +562,7 @@ base versions version =
       few_lemmas = omega arith;
     }
 
-pub own_give : (p : Progress) (c : Content) → allows p kinds.Version ≡ true → KeepsLimits c → IsRun p (own_items c)
+pub own_give : (p : Progress) (c : Content) → allows p kinds.Version ≡ true → ContentKeepsLimits c → IsRun p (own_items c)
 own_give p c allowed k =
     let v : Base = base p.versions c.version in
     let tree : List Item = map tree_item c.tree ++ End ∷ [] in
@@ -623,13 +623,13 @@ cycles_test cs few rows each =
     (le_test (length cs) 100000 few) (le_test (total_rows cs) 10000000 rows) in
     and_both (nat_le (length cs) 100000 && nat_le (total_rows cs) 10000000) (list_all is_cycle cs) k1 each
 
-pub lines_test : (ls : List TreeLine) → length ls ≤ 1000000 → total_pairs ls ≤ 20000000 → list_all is_line ls ≡ true
+pub lines_test : (ls : List TreeLine) → length ls ≤ 1000000 → total_pairs ls ≤ 20000000 → list_all line_keeps_limits ls ≡ true
     → are_trees 1 (map line_of ls) ≡ true → are_lines ls ≡ true
 lines_test ls few pairs each whole =
     let l1 = and_both (nat_le (length ls) 1000000) (nat_le (total_pairs ls) 20000000)
     (le_test (length ls) 1000000 few) (le_test (total_pairs ls) 20000000 pairs) in
-    let l2 = and_both (nat_le (length ls) 1000000 && nat_le (total_pairs ls) 20000000) (list_all is_line ls) l1 each in
-    and_both (nat_le (length ls) 1000000 && nat_le (total_pairs ls) 20000000 && list_all is_line ls)
+    let l2 = and_both (nat_le (length ls) 1000000 && nat_le (total_pairs ls) 20000000) (list_all line_keeps_limits ls) l1 each in
+    and_both (nat_le (length ls) 1000000 && nat_le (total_pairs ls) 20000000 && list_all line_keeps_limits ls)
     (are_trees 1 (map line_of ls)) l2 whole
 
 pub own_take : (p : Progress) (c : Content) → IsRun p (own_items c) → keeps_limits c ≡ true
@@ -674,7 +674,7 @@ own_take p c run =
     and_both (is_period c.period && has_costs c.answer && are_times c.times && are_cycles c.cycles
     && are_lines c.tree) (has_lines c.version c.tree) atcl known
 
-pub limits_give : (c : Content) → KeepsLimits c → HasText None c
+pub limits_give : (c : Content) → ContentKeepsLimits c → HasText None c
 limits_give c k = record { run = own_give (beginning All) c refl k }
 
 pub text_keeps_limits : (c : Content) → HasText None c → keeps_limits c ≡ true
@@ -687,5 +687,5 @@ pub kept_is_text : (c : Content) → keeps_limits c ≡ true → HasText None c
 kept_is_text c h = limits_give c (limits_of c h)
 
 -- the limits are kept exactly by what has a text
-pub limits_iff : (c : Content) → KeepsLimits c ↔ HasText None c
+pub limits_iff : (c : Content) → ContentKeepsLimits c ↔ HasText None c
 limits_iff c = (limits_give c, λ text. limits_of c (text_keeps_limits c text))

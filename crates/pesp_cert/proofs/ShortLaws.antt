@@ -9,16 +9,16 @@ use Rattle.pesp_problem.specs.declared.row.SignedRow.{SignedRow}
 use Rattle.pesp_problem.specs.declared.pair.Pair.{Pair}
 use Rattle.pesp_truth.specs.declared.answer.Answer.TheVariants as answers
 use Rattle.pesp_cert_lines.specs.declared.progress.Progress.{Progress}
-use Rattle.pesp_text.specs.Number.{NATURALS}
-use Rattle.pesp_text.specs.Words.{spaced, line_of_words}
+use Rattle.pesp_stream.specs.Number.{NATURALS}
+use Rattle.pesp_stream.specs.Words.{spaced, line_of_words}
 use Rattle.pesp_cert_lines.specs.Pairs.{pair_words, is_pair_within, all_within, follows, rise_from}
 use Rattle.pesp_cert_lines.specs.declared.item.Item.{Item}
 use Rattle.pesp_cert_lines.specs.declared.item.Item.TheVariants.{Front, Scale, Walk, Lemma, Least, Version, Period, Answer as Says, Time, Cycle, Slack, Offset, Bound, Nothing, Gap, Propagated, End}
 use Rattle.pesp_cert_lines.specs.Rows.{is_name, rows_are_named, row_word, row_words}
-use Rattle.pesp_nets.specs.declared.marked.MarkedRow.{MarkedRow}
+use Rattle.pesp_problem.specs.declared.marked.MarkedRow.{MarkedRow}
 use Rattle.pesp_cert_lines.specs.Marked.{star, marked_word, marked_words, are_named}
 use Rattle.pesp_cert_lines.specs.Items.{item_words}
-use Rattle.pesp_cert_lines.specs.Counts.{after, CanStand}
+use Rattle.pesp_cert_lines.specs.Counts.{progress_after, CanStand}
 use Rattle.pesp_cert.specs.Texts.{IsRun}
 use Rattle.pesp_cert_lines.specs.Lines.{LONGEST}
 use Rattle.pesp_cert_lines.proofs.Tests.{and_left, and_right}
@@ -166,4 +166,4 @@ can_short p End can = omega arith
 pub run_short : (p : Progress) (items : List Item) → IsRun p items → AllByRecursion IsShort items
 run_short p [] run = absurd run
 run_short p (item ∷ []) run = (can_short p item run.0, tt)
-run_short p (item ∷ next ∷ more) run = (can_short p item run.0, run_short (after p item) (next ∷ more) run.2)
+run_short p (item ∷ next ∷ more) run = (can_short p item run.0, run_short (progress_after p item) (next ∷ more) run.2)

@@ -12,17 +12,16 @@ use Rattle.pesp_cert.specs.declared.refusal.CertRefusal.TheVariants as refusals
 use Rattle.pesp_cert_lines.specs.declared.progress.Progress.{Progress}
 use Rattle.pesp_cert_lines.specs.declared.versions.Versions.{Versions}
 use Rattle.pesp_cert_lines.specs.declared.versions.Versions.TheVariants as readers
-use Rattle.pesp_lemma.specs.Fronts.{Front}
-use Rattle.pesp_text.specs.Words.{is_byte, pieces, spaced, line_of_words}
+use Rattle.pesp_truth.specs.Certificates.{Front, Content}
+use Rattle.pesp_stream.specs.Words.{is_byte, pieces, spaced, line_of_words}
 use Rattle.pesp_cert_lines.specs.declared.item.Item.{Item}
 use Rattle.pesp_cert_lines.specs.Items.{item_words, item_line}
-use Rattle.pesp_cert_lines.specs.Counts.{beginning, after, CanStand}
+use Rattle.pesp_cert_lines.specs.Counts.{beginning, progress_after, CanStand}
 use Rattle.pesp_cert_lines.specs.Lines.{LONGEST, line_at}
 use Rattle.pesp_cert.specs.Texts.{is_end, IsRun, text_of, items_of, spelling, takes, NoneBeginsAnother}
 use Rattle.pesp_cert.specs.Refusals.{items_from, items_of_text, onto, is_nothing, refusal_at, IsTextOf, ReadsTexts, ReadsWhole}
 use Rattle.pesp_cert_lines.proofs.Tests.{cases, and_left, and_right}
 use Rattle.pesp_cert.proofs.TextSteps.{nonempty, at_end, at_item, nothing_more}
-use Rattle.pesp_truth.specs.Certificates.{Content}
 use Rattle.pesp_cert.specs.Drafts.{blank, all_added, FrontValue, no_front, all_noted, front_said, ReadsItems}
 use Rattle.pesp_cert.proofs.DraftLaws.{all_added-items_of, front_said-items_of}
 use Rattle.pesp_cert.proofs.FrontRuns.{has_text, text_run, fronts_iff}
@@ -70,13 +69,13 @@ ends p line next more item n items found e h = go (is_nothing (next ∷ more)) r
         })
 
 run_onto : (p : Progress) (item : Item) (rest : List Item) → CanStand p item → is_end item ≡ false
-    → IsRun (after p item) rest → IsRun p (item ∷ rest)
+    → IsRun (progress_after p item) rest → IsRun p (item ∷ rest)
 run_onto p item [] can e h = absurd h
 run_onto p item (next ∷ more) can e h = (can, e, h)
 
 goes_on : (p : Progress) (line next : List ℕ) (more : List (List ℕ)) (item : Item) (rest items : List Item)
     → (line ≡ line_of_words (item_words item)) × CanStand p item → is_end item ≡ false
-    → AreFound (after p item) (next ∷ more) rest → items ≡ item ∷ rest → AreFound p (line ∷ next ∷ more) items
+    → AreFound (progress_after p item) (next ∷ more) rest → items ≡ item ∷ rest → AreFound p (line ∷ next ∷ more) items
 goes_on p line next more item rest items found e others same =
     rw same (record {
       text = rw (flat_map-cons item_line item rest)
@@ -102,15 +101,15 @@ items_found n p (line ∷ next ∷ more) items h =
         → AreFound q (next ∷ more) rest) → elim r as (λ r. Result (List Item) CertRefusal) [
           | Err f ↦ Err (refusal_at n f)
           | Ok item ↦ cond (is_end item) (cond (is_nothing (next ∷ more)) (Ok (item ∷ []))
-              (Err (refusals.Trailing (n + 1)))) (onto item (items_from (n + 1) (after p item) (next ∷ more)))
+              (Err (refusals.Trailing (n + 1)))) (onto item (items_from (n + 1) (progress_after p item) (next ∷ more)))
         ] ≡ Ok items → AreFound p (line ∷ next ∷ more) items
     at (Err f) e others h = absurd cc
     at (Ok item) e others h =
         elim (cases (is_end item)) [
           | inl last ↦ ends p line next more item (n + 1) items (line_found p line item e) last (rw last at h)
           | inr goes ↦
-              let o = onto_ok item (items_from (n + 1) (after p item) (next ∷ more)) items (rw goes at h) in
-              goes_on p line next more item o.0 items (line_found p line item e) goes (others (after p item) o.0 o.1) o.2
+              let o = onto_ok item (items_from (n + 1) (progress_after p item) (next ∷ more)) items (rw goes at h) in
+              goes_on p line next more item o.0 items (line_found p line item e) goes (others (progress_after p item) o.0 o.1) o.2
         ]
 
 -- ---- what is spelt is read, whatever stands behind it
@@ -177,9 +176,9 @@ items_read (item ∷ next ∷ others) n m p more run short last =
     ap (λ (t : List ℕ). pieces 10 (t ++ more)) (flat_map-cons item_line item (next ∷ others))
     ∙ ap (pieces 10) (append_assoc (item_line item) (flat_map item_line (next ∷ others)) more)
     ∙ line_cut p item rest run.0 ∙ ap (λ (ps : List (List ℕ)). line_of_words (item_words item) ∷ ps) some.2 in
-    let later = items_read (next ∷ others) (n + 1) m (after p item) more run.2 short.1 (omega (arith, last)) in
+    let later = items_read (next ∷ others) (n + 1) m (progress_after p item) more run.2 short.1 (omega (arith, last)) in
     let step = at_item n p (line_of_words (item_words item)) some.0 some.1 item short.0 (line_read p item run.0) run.1 in
-    rw cut (step ∙ ap (onto item) (ap (items_from (n + 1) (after p item)) (sym some.2) ∙ later)
+    rw cut (step ∙ ap (onto item) (ap (items_from (n + 1) (progress_after p item)) (sym some.2) ∙ later)
     ∙ through item (length more == 0) (next ∷ others) m)
   where
     through : (item : Item) (b : Bool) (rest : List Item) (m : ℕ)

@@ -12,14 +12,14 @@ use Rattle.pesp_truth.specs.declared.answer.Answer.TheVariants as answers
 use Rattle.pesp_truth.specs.declared.tree.TreeLine.{TreeLine}
 use Rattle.pesp_truth.specs.declared.tree.TreeLine.TheVariants as lines
 use Rattle.pesp_truth.specs.Certificates.{Content}
-use Rattle.pesp_text.specs.Words.{spaced}
+use Rattle.pesp_stream.specs.Words.{spaced}
 use Rattle.pesp_cert_lines.specs.Pairs.{pair_words, rise_from, all_within}
 use Rattle.pesp_cert_lines.specs.declared.item.Item.{Item}
 use Rattle.pesp_cert_lines.specs.declared.item.Item.TheVariants.{Version, Period, Answer as Says, Cycle, End}
 use Rattle.pesp_cert_lines.specs.Rows.{rows_are_named, row_words}
 use Rattle.pesp_cert_lines.specs.Items.{item_line}
 use Rattle.pesp_cert_lines.proofs.Tests.{and_left, and_right}
-use Rattle.pesp_cert.specs.Limits.{has_costs, is_time, is_cycle, total_rows, is_line, pairs_in, total_pairs, KeepsLimits}
+use Rattle.pesp_cert.specs.Limits.{has_costs, is_time, is_cycle, total_rows, line_keeps_limits, count_pairs, total_pairs, ContentKeepsLimits}
 use Rattle.pesp_cert.specs.Texts.{HasText, time_item, tree_item, spelling}
 use Rattle.pesp_cert.proofs.LimitFacts.{limits_of}
 use Rattle.pesp_cert.proofs.Runs.{text_keeps_limits}
@@ -91,7 +91,7 @@ leaf_len : (w : List ℕ) (ps : List Pair) → length w ≤ 1 → rise_from 0 ps
     → length ((w ++ spaced (pair_words ps)) ++ 10 ∷ []) ≤ 50 + 39 * length ps
 leaf_len w ps one h = omega (arith, one, list_len w (spaced (pair_words ps)), pairs_len ps (and_right (rise_from 0 ps) (all_within ps) h))
 
-line_len : (line : TreeLine) → is_line line ≡ true → length (item_line (tree_item line)) ≤ 50 + 39 * pairs_in line
+line_len : (line : TreeLine) → line_keeps_limits line ≡ true → length (item_line (tree_item line)) ≤ 50 + 39 * count_pairs line
 line_len (lines.Slack row k) h = omega (
   arith,
   two_len (codes "s") (decimal row) (decimal k),
@@ -133,21 +133,21 @@ cycles_len (w ∷ cs) h =
       cycles_len cs (and_right (is_cycle w) (list_all is_cycle cs) h),
     )
 
-tree_len : (ls : List TreeLine) → list_all is_line ls ≡ true → bytes_in (map tree_item ls) ≤ 50 * length ls + 39 * total_pairs ls
+tree_len : (ls : List TreeLine) → list_all line_keeps_limits ls ≡ true → bytes_in (map tree_item ls) ≤ 50 * length ls + 39 * total_pairs ls
 tree_len [] h = omega arith
 tree_len (l ∷ ls) h =
-    let total : total_pairs (l ∷ ls) ≡ pairs_in l + total_pairs ls = sum_by-cons pairs_in l ls in
+    let total : total_pairs (l ∷ ls) ≡ count_pairs l + total_pairs ls = sum_by-cons count_pairs l ls in
     omega (
       arith,
       total,
       bytes-onto (tree_item l) (map tree_item ls),
-      line_len l (and_left (is_line l) (list_all is_line ls) h),
-      tree_len ls (and_right (is_line l) (list_all is_line ls) h),
+      line_len l (and_left (line_keeps_limits l) (list_all line_keeps_limits ls) h),
+      tree_len ls (and_right (line_keeps_limits l) (list_all line_keeps_limits ls) h),
     )
 
 -- ---- the whole text
 
-others_len : (c : Content) → KeepsLimits c → bytes_in
+others_len : (c : Content) → ContentKeepsLimits c → bytes_in
     (((map time_item c.times ++ map Cycle c.cycles) ++ map tree_item c.tree) ++ End ∷ []) ≤ 1000000000
 others_len c k =
     let last : bytes_in (End ∷ []) ≡ 4 = refl in

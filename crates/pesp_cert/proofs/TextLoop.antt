@@ -2,14 +2,14 @@
 use Rattle.std.proofs.Common.{◌≡◌, ℕ, ◌+◌, ◌<◌, ◌≤◌, true, false, cond, List, [], ◌∷◌, ◌++◌, length, Option, Some, None, Result, Ok, Err, refl, sym, ap, ◌∙◌, arith, inr, append_assoc}
 use Rattle.std.specs.Prelude.{◌==◌}
 use Rattle.pesp_truth.specs.Certificates.{Content}
-use Rattle.pesp_lemma.specs.Shown.{LemmaProof}
-use Rattle.pesp_text.specs.Words.{pieces}
+use Rattle.pesp_truth.specs.Shown.{LemmaProof}
+use Rattle.pesp_stream.specs.Words.{pieces}
 use Rattle.pesp_cert_lines.specs.declared.fault.LineFault.{LineFault}
 use Rattle.pesp_cert_lines.specs.declared.item.Item.{Item}
 use Rattle.pesp_cert_lines.specs.declared.item.Item.TheVariants.{End}
 use Rattle.pesp_cert_lines.specs.declared.progress.Progress.{Progress}
 use Rattle.pesp_cert_lines.specs.declared.versions.Versions.{Versions}
-use Rattle.pesp_cert_lines.specs.Counts.{beginning, after, IsKept}
+use Rattle.pesp_cert_lines.specs.Counts.{beginning, progress_after, ProgressIsKept}
 use Rattle.pesp_cert_lines.specs.Lines.{line_at, LONGEST}
 use Rattle.pesp_cert.specs.declared.refusal.CertRefusal.{CertRefusal}
 use Rattle.pesp_cert.specs.declared.refusal.CertRefusal.TheVariants as refusals
@@ -30,7 +30,7 @@ pub record IsReadTo (vs : Versions) (all rest : List ℕ) (n : ℕ) (p : Progres
   pub same : behind items (items_from n p (pieces 10 rest)) ≡ items_of_text vs all
   pub fronts : front ≡ all_noted no_front items
   pub made : draft ≡ all_added no_front blank items
-  pub kept : IsKept p
+  pub kept : ProgressIsKept p
   pub long : n + length rest ≤ length all + 1
   pub more : 1 ≤ n
 
@@ -38,7 +38,7 @@ behind_nothing : (r : Result (List Item) CertRefusal) → behind [] r ≡ r
 behind_nothing (Ok items) = refl
 behind_nothing (Err e) = refl
 
-pub read_start : (vs : Versions) (all : List ℕ) (p : Progress) (front : FrontValue) (draft : Content) → p ≡ beginning vs → IsKept p
+pub read_start : (vs : Versions) (all : List ℕ) (p : Progress) (front : FrontValue) (draft : Content) → p ≡ beginning vs → ProgressIsKept p
     → front ≡ no_front → draft ≡ blank → IsReadTo vs all all 1 p front draft
 unfolding items_of_text
 read_start vs all p front draft e kept unfronted none = record {
@@ -133,16 +133,16 @@ behind_onto items item (Err e) = refl
 pub read_more : (vs : Versions) (all rest line more : List ℕ) (n : ℕ) (p q : Progress) (front after_front : FrontValue) (draft next : Content) (item : Item)
     → IsReadTo vs all rest n p front draft → pieces 10 rest ≡ line ∷ pieces 10 more → length more < length rest
     → length line ≤ LONGEST → line_at p line ≡ Ok item → is_end item ≡ false
-    → q ≡ after p item → IsKept q → after_front ≡ noted front item → next ≡ added_behind after_front.shown draft item
+    → q ≡ progress_after p item → ProgressIsKept q → after_front ≡ noted front item → next ≡ added_behind after_front.shown draft item
     → IsReadTo vs all more (n + 1) q after_front next
 read_more vs all rest line more n p q front after_front draft next item so_far cut shorter short h e goes kept notes is =
     let some = nonempty more in
-    let one : items_from n p (pieces 10 rest) ≡ onto item (items_from (n + 1) (after p item) (pieces 10 more)) =
+    let one : items_from n p (pieces 10 rest) ≡ onto item (items_from (n + 1) (progress_after p item) (pieces 10 more)) =
     rw (cut, some.2) (at_item n p line some.0 some.1 item short h e) in
     record {
       items = so_far.items ++ item ∷ [];
-      same = rw goes (behind_onto so_far.items item (items_from (n + 1) (after p item) (pieces 10 more))
-          ∙ read_as vs all rest n p front draft (onto item (items_from (n + 1) (after p item) (pieces 10 more))) so_far one);
+      same = rw goes (behind_onto so_far.items item (items_from (n + 1) (progress_after p item) (pieces 10 more))
+          ∙ read_as vs all rest n p front draft (onto item (items_from (n + 1) (progress_after p item) (pieces 10 more))) so_far one);
       fronts = notes ∙ ap (λ (f : FrontValue). noted f item) so_far.fronts ∙ sym (all_noted-append no_front so_far.items (item ∷ []));
       made = is ∙ ap (λ (f : FrontValue). added_behind f.shown draft item) (notes ∙ ap (λ (f : FrontValue). noted f item) so_far.fronts)
           ∙ ap (λ (c : Content). added_behind (noted (all_noted no_front so_far.items) item).shown c item) so_far.made

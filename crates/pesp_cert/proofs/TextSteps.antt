@@ -4,11 +4,11 @@ use Rattle.std.specs.Prelude.{◌==◌}
 use Rattle.std.specs.List.{onto_first}
 use Rattle.std.proofs.lemmas.Bool.Decides.{nat_tests}
 use Rattle.std.proofs.lemmas.Bool.{le-ltb, lt-ltb}
-use Rattle.pesp_text.specs.Words.{pieces, is_byte}
+use Rattle.pesp_stream.specs.Words.{pieces, is_byte}
 use Rattle.pesp_cert_lines.specs.declared.fault.LineFault.{LineFault}
 use Rattle.pesp_cert_lines.specs.declared.item.Item.{Item}
 use Rattle.pesp_cert_lines.specs.declared.progress.Progress.{Progress}
-use Rattle.pesp_cert_lines.specs.Counts.{after}
+use Rattle.pesp_cert_lines.specs.Counts.{progress_after}
 use Rattle.pesp_cert_lines.specs.Lines.{line_at, LONGEST}
 use Rattle.pesp_cert.specs.declared.refusal.CertRefusal.TheVariants as refusals
 use Rattle.pesp_cert.specs.Texts.{is_end}
@@ -37,7 +37,7 @@ at_end n p line next more item short h e = rw (le-ltb LONGEST (length line) shor
 
 pub at_item : (n : ℕ) (p : Progress) (line next : List ℕ) (more : List (List ℕ)) (item : Item)
     → length line ≤ LONGEST → line_at p line ≡ Ok item → is_end item ≡ false
-    → items_from n p (line ∷ next ∷ more) ≡ onto item (items_from (n + 1) (after p item) (next ∷ more))
+    → items_from n p (line ∷ next ∷ more) ≡ onto item (items_from (n + 1) (progress_after p item) (next ∷ more))
 unfolding items_from
 at_item n p line next more item short h e = rw (le-ltb LONGEST (length line) short, h) (rw e refl)
 

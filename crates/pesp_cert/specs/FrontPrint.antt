@@ -3,10 +3,10 @@ use Rattle.std.specs.Prelude.{if◌then◌else◌, ℕ, List, ◌++◌, decimal,
 use Rattle.std.specs.List.{flat_map}
 use Rattle.std.specs.Fmt.{signed_decimal}
 use Rattle.pesp_truth.specs.Marks.{Marks}
-use Rattle.pesp_lemma.specs.Shown.{LemmaProof}
-use Rattle.pesp_nets.specs.declared.marked.MarkedRow.{MarkedRow}
+use Rattle.pesp_truth.specs.Shown.{LemmaProof}
+use Rattle.pesp_problem.specs.declared.marked.MarkedRow.{MarkedRow}
 use Rattle.pesp_cert_lines.specs.Marked.{star}
-use Rattle.pesp_cert.specs.Print.{pairs_text, cycle_line, tree_line}
+use Rattle.pesp_cert.specs.Print.{pairs_text, cycle_line, tree_line_text}
 
 -- a marked row behind a space: a sign, a number, and `*` where the row is flipped
 abbrev pub row_text : MarkedRow → List ℕ
@@ -27,4 +27,4 @@ marks_text marks = (codes "scale " ++ (decimal marks.scale ++ codes "\n")) ++ fl
 -- the lines of a lemma
 abbrev pub lemma_text : LemmaProof → List ℕ
 lemma_text s = codes "lemma" ++ pairs_text s.fact.weights ++ (codes "\nleast " ++ (signed_decimal s.fact.least ++ codes "\n"))
-    ++ marks_text s.marks ++ flat_map cycle_line s.cycles ++ flat_map tree_line s.tree
+    ++ marks_text s.marks ++ flat_map cycle_line s.cycles ++ flat_map tree_line_text s.tree

@@ -1,7 +1,6 @@
 -- Certificates with their fronts, and their texts.
 use Rattle.std.specs.Prelude.{◌≡◌, ◌⊎◌, ℕ, List, Option, Result, Ok, Err}
-use Rattle.pesp_truth.specs.Certificates.{Content}
-use Rattle.pesp_lemma.specs.Fronts.{Front}
+use Rattle.pesp_truth.specs.Certificates.{Content, Front}
 use Rattle.pesp_cert.specs.declared.refusal.CertRefusal.{CertRefusal}
 use Rattle.pesp_cert.specs.declared.refusal.CertRefusal.TheVariants as refusals
 use Rattle.pesp_cert.specs.Texts.{text_of, front_items, spelling}

@@ -8,13 +8,12 @@ use Rattle.pesp_truth.specs.declared.answer.Answer.{Answer}
 use Rattle.pesp_truth.specs.declared.answer.Answer.TheVariants.{Optimal, Infeasible, Bounded}
 use Rattle.pesp_truth.specs.declared.tree.TreeLine.{TreeLine}
 use Rattle.pesp_truth.specs.declared.tree.TreeLine.TheVariants.{Slack, Offset, Bound, Nothing, Gap, Propagated}
-use Rattle.pesp_truth.specs.FrontLimits.{keeps_limits as marks_keep_limits}
-use Rattle.pesp_truth.specs.Trees.{are_trees}
-use Rattle.pesp_truth.specs.Certificates.{Content, line_of, lines_of}
-use Rattle.pesp_lemma.specs.Lemmas.{Lemma}
-use Rattle.pesp_lemma.specs.Shown.{LemmaProof}
-use Rattle.pesp_lemma.specs.Fronts.{Front}
-use Rattle.pesp_text.specs.Number.{NATURALS}
+use Rattle.pesp_truth.specs.FrontLimits.{marks_keep_limits as marks_keep_limits}
+use Rattle.pesp_truth.specs.Trees.{are_trees, line_of}
+use Rattle.pesp_truth.specs.Certificates.{Content, lines_of, Front}
+use Rattle.pesp_truth.specs.Lemmas.{Lemma}
+use Rattle.pesp_truth.specs.Shown.{LemmaProof}
+use Rattle.pesp_stream.specs.Number.{NATURALS}
 use Rattle.pesp_cert_lines.specs.Rows.{is_name, rows_are_named}
 use Rattle.pesp_cert_lines.specs.Pairs.{rise_from, all_within}
 
@@ -58,13 +57,13 @@ abbrev pub are_pairs : List Pair → Bool
 are_pairs ps = rise_from 0 ps && all_within ps
 
 -- the numbers of a line of the tree are within their limits, and those of its pairs rise
-abbrev pub is_line : TreeLine → Bool
-is_line (Slack row k) = is_name row && nat_le k MOST_SLACK
-is_line (Offset cycle k) = is_name cycle && nat_le (nat_abs k) MOST_OFFSET
-is_line (Bound ps) = are_pairs ps
-is_line (Nothing ps) = are_pairs ps
-is_line (Gap cycle) = is_name cycle
-is_line Propagated = true
+abbrev pub line_keeps_limits : TreeLine → Bool
+line_keeps_limits (Slack row k) = is_name row && nat_le k MOST_SLACK
+line_keeps_limits (Offset cycle k) = is_name cycle && nat_le (nat_abs k) MOST_OFFSET
+line_keeps_limits (Bound ps) = are_pairs ps
+line_keeps_limits (Nothing ps) = are_pairs ps
+line_keeps_limits (Gap cycle) = is_name cycle
+line_keeps_limits Propagated = true
 
 -- whether a line of the tree is a branch
 abbrev pub is_branch : TreeLine → Bool
@@ -73,18 +72,18 @@ is_branch (Offset cycle k) = true
 is_branch _ = false
 
 -- how many pairs a line of the tree has
-abbrev pub pairs_in : TreeLine → ℕ
-pairs_in (Bound ps) = length ps
-pairs_in (Nothing ps) = length ps
-pairs_in _ = 0
+abbrev pub count_pairs : TreeLine → ℕ
+count_pairs (Bound ps) = length ps
+count_pairs (Nothing ps) = length ps
+count_pairs _ = 0
 
 -- how many pairs the tree has
 abbrev pub total_pairs : List TreeLine → ℕ
-total_pairs lines = sum_by pairs_in lines
+total_pairs lines = sum_by count_pairs lines
 
 -- one whole tree
 abbrev pub are_lines : List TreeLine → Bool
-are_lines lines = nat_le (length lines) MOST_LINES && nat_le (total_pairs lines) MOST_PAIRS && list_all is_line lines
+are_lines lines = nat_le (length lines) MOST_LINES && nat_le (total_pairs lines) MOST_PAIRS && list_all line_keeps_limits lines
     && are_trees 1 (map line_of lines)
 
 -- whether certificates of this version have such a line
@@ -102,7 +101,7 @@ keeps_limits c = is_period c.period && has_costs c.answer && are_times c.times &
     && are_lines c.tree && has_lines c.version c.tree
 
 -- the same as facts
-pub record KeepsLimits (c : Content) : Type 0 where
+pub record ContentKeepsLimits (c : Content) : Type 0 where
   pub version : (1 ≤ c.version) × (c.version ≤ 2)
   pub period : (1 ≤ c.period) × (c.period ≤ MOST_PERIOD)
   pub answer : has_costs c.answer ≡ true
@@ -113,7 +112,7 @@ pub record KeepsLimits (c : Content) : Type 0 where
   pub each_cycle : list_all is_cycle c.cycles ≡ true
   pub lines : length c.tree ≤ MOST_LINES
   pub pairs : total_pairs c.tree ≤ MOST_PAIRS
-  pub each_line : list_all is_line c.tree ≡ true
+  pub each_line : list_all line_keeps_limits c.tree ≡ true
   pub whole : are_trees 1 (lines_of c) ≡ true
   pub known : list_all (has_line c.version) c.tree ≡ true
 

@@ -50,15 +50,15 @@ abbrev pub cycle_line : List SignedRow → List ℕ
 cycle_line rs = codes "cycle" ++ rows_text rs ++ codes "\n"
 
 -- a line of the tree, of a branch or of a leaf
-abbrev pub tree_line : TreeLine → List ℕ
-tree_line (lines.Slack row k) = codes "s " ++ decimal row ++ codes " " ++ decimal k ++ codes "\n"
-tree_line (lines.Offset cycle k) = codes "o " ++ decimal cycle ++ codes " " ++ signed_decimal k ++ codes "\n"
-tree_line (lines.Bound ps) = codes "b" ++ pairs_text ps ++ codes "\n"
-tree_line (lines.Nothing ps) = codes "n" ++ pairs_text ps ++ codes "\n"
-tree_line (lines.Gap cycle) = codes "g " ++ decimal cycle ++ codes "\n"
-tree_line lines.Propagated = codes "p\n"
+abbrev pub tree_line_text : TreeLine → List ℕ
+tree_line_text (lines.Slack row k) = codes "s " ++ decimal row ++ codes " " ++ decimal k ++ codes "\n"
+tree_line_text (lines.Offset cycle k) = codes "o " ++ decimal cycle ++ codes " " ++ signed_decimal k ++ codes "\n"
+tree_line_text (lines.Bound ps) = codes "b" ++ pairs_text ps ++ codes "\n"
+tree_line_text (lines.Nothing ps) = codes "n" ++ pairs_text ps ++ codes "\n"
+tree_line_text (lines.Gap cycle) = codes "g " ++ decimal cycle ++ codes "\n"
+tree_line_text lines.Propagated = codes "p\n"
 
 -- the text of a certificate without a front, as it is printed
 abbrev pub certificate_text : Content → List ℕ
 certificate_text c = head_lines c.version c.period ++ answer_line c.answer ++ flat_map time_line c.times
-    ++ flat_map cycle_line c.cycles ++ flat_map tree_line c.tree ++ codes "end\n"
+    ++ flat_map cycle_line c.cycles ++ flat_map tree_line_text c.tree ++ codes "end\n"

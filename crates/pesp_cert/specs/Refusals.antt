@@ -1,14 +1,13 @@
 -- What a text says as a whole, or which refusal it gives: the first line with a fault decides.
 use Rattle.std.specs.Prelude.{◌≡◌, ℕ, ◌+◌, Bool, true, ◌&&◌, ◌==◌, nat_lt, if◌then◌else◌, Result, Ok, Err, List, [], ◌∷◌, ◌⊎◌, length, Option, None, IsOkAnd}
-use Rattle.pesp_truth.specs.Certificates.{Content}
-use Rattle.pesp_text.specs.Words.{pieces}
+use Rattle.pesp_truth.specs.Certificates.{Content, Front}
+use Rattle.pesp_stream.specs.Words.{pieces}
 use Rattle.pesp_cert_lines.specs.declared.fault.LineFault.{LineFault}
 use Rattle.pesp_cert_lines.specs.declared.fault.LineFault.TheVariants as faults
 use Rattle.pesp_cert_lines.specs.declared.item.Item.{Item}
 use Rattle.pesp_cert_lines.specs.declared.progress.Progress.{Progress}
 use Rattle.pesp_cert_lines.specs.declared.versions.Versions.{Versions}
-use Rattle.pesp_cert_lines.specs.Counts.{after, beginning}
-use Rattle.pesp_lemma.specs.Fronts.{Front}
+use Rattle.pesp_cert_lines.specs.Counts.{progress_after, beginning}
 use Rattle.pesp_cert_lines.specs.Lines.{line_at, LONGEST}
 use Rattle.pesp_cert.specs.declared.refusal.CertRefusal.{CertRefusal}
 use Rattle.pesp_cert.specs.declared.refusal.CertRefusal.TheVariants as refusals
@@ -44,7 +43,7 @@ items_from n p (line ∷ next ∷ more) = if nat_lt LONGEST (length line) then E
     elim (line_at p line) as (λ r. Result (List Item) CertRefusal) [
       | Err f ↦ Err (refusal_at n f)
       | Ok item ↦ if is_end item then (if is_nothing (next ∷ more) then Ok (item ∷ []) else Err (refusals.Trailing (n + 1)))
-          else onto item (items_from (n + 1) (after p item) (next ∷ more))
+          else onto item (items_from (n + 1) (progress_after p item) (next ∷ more))
     ]
 
 -- the items of a whole text, or its first fault, where these versions are taken

@@ -3,17 +3,16 @@ use Rattle.std.specs.Prelude.{◌≡◌, ℕ, true, false, List, [], ◌∷◌, 
 use Rattle.std.specs.List.{flat_map}
 use Rattle.pesp_truth.specs.declared.tree.TreeLine.{TreeLine}
 use Rattle.pesp_truth.specs.declared.tree.TreeLine.TheVariants as lines
-use Rattle.pesp_truth.specs.Certificates.{Content}
+use Rattle.pesp_truth.specs.Certificates.{Content, Front as FrontOf}
 use Rattle.pesp_cert_lines.specs.declared.item.Item.{Item}
 use Rattle.pesp_cert_lines.specs.declared.item.Item.TheVariants.{Front, Scale, Walk, Lemma, Least, Version, Period, Answer as Says, Time, Cycle, Slack, Offset, Bound, Nothing, Gap, Propagated, End}
 use Rattle.pesp_cert_lines.specs.declared.progress.Progress.{Progress}
 use Rattle.pesp_cert_lines.specs.declared.versions.Versions.{Versions}
 use Rattle.pesp_cert_lines.specs.declared.versions.Versions.TheVariants.{Plain, All}
 use Rattle.pesp_truth.specs.Marks.{Marks}
-use Rattle.pesp_lemma.specs.Shown.{LemmaProof}
-use Rattle.pesp_lemma.specs.Fronts.{Front as FrontOf}
+use Rattle.pesp_truth.specs.Shown.{LemmaProof}
 use Rattle.pesp_cert_lines.specs.Items.{item_line}
-use Rattle.pesp_cert_lines.specs.Counts.{after, beginning, CanStand}
+use Rattle.pesp_cert_lines.specs.Counts.{progress_after, beginning, CanStand}
 
 -- a line for each item
 abbrev pub text_of : List Item → List ℕ
@@ -28,7 +27,7 @@ is_end _ = false
 abbrev pub IsRun : Progress → List Item → Type 0
 IsRun p [] = ⊥
 IsRun p (item ∷ []) = CanStand p item × (is_end item ≡ true)
-IsRun p (item ∷ next ∷ more) = CanStand p item × (is_end item ≡ false) × IsRun (after p item) (next ∷ more)
+IsRun p (item ∷ next ∷ more) = CanStand p item × (is_end item ≡ false) × IsRun (progress_after p item) (next ∷ more)
 
 -- the item of an event's label and time
 abbrev pub time_item : ℤ × ℕ → Item

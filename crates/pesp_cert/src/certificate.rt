@@ -2,7 +2,7 @@
 
 ghost use Rattle.std.specs.Prelude.{◌≡◌, true, None, IfOk, OnErr};
 ghost use Rattle.pesp_truth.specs.Certificates.{Content};
-ghost use Rattle.pesp_cert.specs.Limits.{keeps_limits, KeepsLimits};
+ghost use Rattle.pesp_cert.specs.Limits.{keeps_limits, ContentKeepsLimits};
 ghost use Rattle.pesp_cert.specs.Texts.{HasText};
 
 use crate::draft::Draft;
@@ -127,7 +127,7 @@ impl Certificate {
     /// The version of its text, 1 or 2.
     pub fn version(&self) -> u32
         ensures value { result ≡ self.now.version }
-        ensures limits { KeepsLimits self.now }
+        ensures limits { ContentKeepsLimits self.now }
     {
         self.version
     }
@@ -135,7 +135,7 @@ impl Certificate {
     /// The period of the instance.
     pub fn period(&self) -> u32
         ensures value { result ≡ self.now.period }
-        ensures limits { KeepsLimits self.now }
+        ensures limits { ContentKeepsLimits self.now }
     {
         self.period
     }
@@ -143,7 +143,7 @@ impl Certificate {
     /// What is said of the instance.
     pub fn answer(&self) -> Answer
         ensures value { result ≡ self.now.answer }
-        ensures limits { KeepsLimits self.now }
+        ensures limits { ContentKeepsLimits self.now }
     {
         self.answer
     }
@@ -151,7 +151,7 @@ impl Certificate {
     /// The labels of the events with their times; none where the answer has no timetable.
     pub fn times(&self) -> &[(i64, u32)]
         ensures value { result.now ≡ self.now.times }
-        ensures limits { KeepsLimits self.now }
+        ensures limits { ContentKeepsLimits self.now }
     {
         &self.times
     }
@@ -159,7 +159,7 @@ impl Certificate {
     /// The table of cycles, which are numbered from 1.
     pub fn cycles(&self) -> &[Walk]
         ensures value { result.now ≡ self.now.cycles }
-        ensures limits { KeepsLimits self.now }
+        ensures limits { ContentKeepsLimits self.now }
     {
         &self.cycles
     }
@@ -167,7 +167,7 @@ impl Certificate {
     /// The lines of the tree in preorder.
     pub fn tree(&self) -> &[TreeLine]
         ensures value { result.now ≡ self.now.tree }
-        ensures limits { KeepsLimits self.now }
+        ensures limits { ContentKeepsLimits self.now }
     {
         &self.tree
     }

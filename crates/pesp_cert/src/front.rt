@@ -18,7 +18,7 @@ pub struct Front {
 
 impl Model for Front {
     ghost use Rattle.std.specs.Prelude.{◌≡◌, true};
-    ghost use Rattle.pesp_lemma.specs.Fronts.{Front as SpecFront};
+    ghost use Rattle.pesp_truth.specs.Certificates.{Front as SpecFront};
     ghost use Rattle.pesp_cert.specs.Limits.{front_keeps_limits};
 
     ghost Value = { SpecFront };

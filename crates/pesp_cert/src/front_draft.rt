@@ -5,8 +5,7 @@ ghost use Rattle.pesp_cert.specs.Drafts.{no_front, noted, noted_walks, lemmas_wi
 
 use crate::shown_lemma::{ShownLemma, marked_walk_of};
 use pesp_cert_lines::{Item, LinePairs};
-use pesp_nets::MarkedWalk;
-use pesp_problem::{Memory, Pair};
+use pesp_problem::{MarkedWalk, Memory, Pair};
 use std::alloc::Global;
 use std::marker::Model;
 

@@ -2,13 +2,12 @@
 
 ghost use Rattle.std.specs.Prelude.{◌≡◌, nat_le};
 ghost use Rattle.std.specs.List.{list_all};
-ghost use Rattle.pesp_truth.specs.FrontLimits.{are_numbered, is_walk, total_rows, keeps_limits as marks_keep_limits};
+ghost use Rattle.pesp_truth.specs.FrontLimits.{are_numbered, is_walk, total_rows, marks_keep_limits as marks_keep_limits};
 ghost use Rattle.pesp_cert.specs.Limits.{is_lemma, is_shown_lemma, are_lemmas};
 
 use crate::limits::{are_cycles, are_lines, are_pairs};
 use crate::shown_lemma::ShownLemma;
-use pesp_nets::{MarkedRow, MarkedWalk};
-use pesp_problem::{MOST_CYCLES, MOST_SIGNED_ROWS, Pair};
+use pesp_problem::{MOST_CYCLES, MOST_SIGNED_ROWS, MarkedRow, MarkedWalk, Pair};
 use pesp_truth::{is_row_number, is_scale};
 
 /// Least sums below this number have at most 18 digits.

@@ -7,7 +7,7 @@ ghost use Rattle.pesp_stream.specs.Counts.{FewerThan, HasWorked, DeviceFailed};
 ghost use Rattle.pesp_stream.specs.Printing.{Sends};
 ghost use Rattle.pesp_stream.specs.Writing.{Writes};
 ghost use Rattle.pesp_cert.specs.FrontPrint.{row_text, rows_text, walk_text, marks_text, lemma_text};
-ghost use Rattle.pesp_cert.specs.Print.{pairs_text, cycle_line, tree_line};
+ghost use Rattle.pesp_cert.specs.Print.{pairs_text, cycle_line, tree_line_text};
 ghost use Rattle.pesp_cert.specs.Fronted.{fronted_text, front_text};
 ghost use Rattle.pesp_cert_lines.specs.Marked.{star};
 
@@ -16,7 +16,7 @@ use crate::fronted::Fronted;
 use crate::number::{Number, Whole};
 use crate::printer::{print_cycles, print_pairs, print_tree, sign_text};
 use crate::shown_lemma::ShownLemma;
-use pesp_nets::{MarkedRow, MarkedWalk};
+use pesp_problem::{MarkedRow, MarkedWalk};
 use pesp_stream::{Output, Printed, Sink, WriteFault, print_to};
 
 /// The mark of a flipped row.
@@ -105,7 +105,7 @@ fn print_lemma_cycles<O: Output>(lemma: &ShownLemma, out: &mut O)
 
 /// The lines of a lemma's tree.
 fn print_lemma_tree<O: Output>(lemma: &ShownLemma, out: &mut O)
-    ensures { Sends (O.sending out.old) (O.sending out.new) (flat_map tree_line lemma.now.tree) }
+    ensures { Sends (O.sending out.old) (O.sending out.new) (flat_map tree_line_text lemma.now.tree) }
 {
     print_tree(&lemma.tree, out);
 }

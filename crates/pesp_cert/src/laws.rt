@@ -2,11 +2,10 @@
 //! it has the law within reach.
 
 ghost use Rattle.std.specs.Prelude.{◌≡◌, ◌↔◌, ◌<◌, true, ℕ, List, Option, None, Ok, IfSome, length};
-ghost use Rattle.pesp_truth.specs.Certificates.{Content};
+ghost use Rattle.pesp_truth.specs.Certificates.{Content, Front};
 ghost use Rattle.pesp_cert_lines.specs.declared.item.Item.{Item};
 ghost use Rattle.pesp_cert_lines.specs.declared.versions.Versions.{Versions};
-ghost use Rattle.pesp_lemma.specs.Fronts.{Front};
-ghost use Rattle.pesp_cert.specs.Limits.{KeepsLimits, front_keeps_limits};
+ghost use Rattle.pesp_cert.specs.Limits.{ContentKeepsLimits, front_keeps_limits};
 ghost use Rattle.pesp_cert.specs.Refusals.{IsTextOf, items_of_text};
 ghost use Rattle.pesp_cert.specs.Texts.{HasText, NoneBeginsAnother, items_of, spelling, takes};
 
@@ -17,13 +16,13 @@ pub fn no_text_begins_another()
 
 /// What keeps the limits has a text, and nothing else has.
 pub fn limits_are_those_of_texts()
-    ensures { (c : Content) → KeepsLimits c ↔ HasText None c }
+    ensures { (c : Content) → ContentKeepsLimits c ↔ HasText None c }
 {}
 
 /// The same behind a front: front and certificate keep their limits, each for itself.
 pub fn limits_of_fronts_are_those_of_texts()
     ensures { (front : Option Front) (c : Content)
-        → (IfSome front (λ f. front_keeps_limits f ≡ true) × KeepsLimits c) ↔ HasText front c }
+        → (IfSome front (λ f. front_keeps_limits f ≡ true) × ContentKeepsLimits c) ↔ HasText front c }
 {}
 
 /// Every text is shorter than 1,073,741,824 bytes, so a program that reads so many of a certificate reads all of it.

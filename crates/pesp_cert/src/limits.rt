@@ -3,9 +3,8 @@
 ghost use Rattle.std.specs.Prelude.{◌≡◌, nat_le, map};
 ghost use Rattle.pesp_cert_lines.specs.Rows.{is_name, rows_are_named};
 ghost use Rattle.pesp_cert_lines.specs.Pairs.{all_within, follows, is_pair_within, rise_from};
-ghost use Rattle.pesp_truth.specs.Trees.{are_trees};
-ghost use Rattle.pesp_truth.specs.Certificates.{line_of};
-ghost use Rattle.pesp_cert.specs.Limits.{is_period, has_costs, is_time, are_times, is_cycle, total_rows, are_cycles, are_pairs, is_line, is_branch, pairs_in, total_pairs, are_lines, has_line, has_lines, keeps_limits};
+ghost use Rattle.pesp_truth.specs.Trees.{are_trees, line_of};
+ghost use Rattle.pesp_cert.specs.Limits.{is_period, has_costs, is_time, are_times, is_cycle, total_rows, are_cycles, are_pairs, line_keeps_limits, is_branch, count_pairs, total_pairs, are_lines, has_line, has_lines, keeps_limits};
 ghost use Rattle.std.specs.List.{list_all};
 
 use pesp_problem::{
@@ -142,7 +141,7 @@ pub(crate) fn are_pairs(pairs: &[Pair]) -> bool
 }
 
 fn is_line(line: &TreeLine) -> bool
-    ensures { result ≡ is_line line.now }
+    ensures { result ≡ line_keeps_limits line.now }
 {
     match line {
         TreeLine::Slack { row, k } => is_name(*row) && *k <= MOST_SLACK,
@@ -154,7 +153,7 @@ fn is_line(line: &TreeLine) -> bool
 }
 
 fn pairs_in(line: &TreeLine) -> usize
-    ensures { result ≡ pairs_in line.now }
+    ensures { result ≡ count_pairs line.now }
 {
     match line {
         TreeLine::Bound(pairs) | TreeLine::Nothing(pairs) => pairs.as_slice().len(),
@@ -204,7 +203,7 @@ fn are_one_tree(lines: &[TreeLine]) -> bool
 }
 
 fn each_is_line(lines: &[TreeLine]) -> bool
-    ensures { result ≡ list_all is_line lines.now }
+    ensures { result ≡ list_all line_keeps_limits lines.now }
 {
     lines.iter().all(|line| is_line(line))
 }

@@ -5,7 +5,7 @@ ghost use Rattle.std.specs.List.{flat_map};
 ghost use Rattle.pesp_stream.specs.Counts.{FewerThan, HasWorked, DeviceFailed};
 ghost use Rattle.pesp_stream.specs.Printing.{Sends};
 ghost use Rattle.pesp_stream.specs.Writing.{Writes};
-ghost use Rattle.pesp_cert.specs.Print.{head_lines, time_line, pair_text, pairs_text, row_text, rows_text, cycle_line, tree_line, cost_text, answer_line};
+ghost use Rattle.pesp_cert.specs.Print.{head_lines, time_line, pair_text, pairs_text, row_text, rows_text, cycle_line, tree_line_text, cost_text, answer_line};
 ghost use Rattle.pesp_cert.specs.Texts.{HasText, spelling};
 
 use crate::certificate::Certificate;
@@ -109,7 +109,7 @@ fn print_leaf<O: Output>(word: &str, pairs: &[Pair], out: &mut O)
 }
 
 fn print_line<O: Output>(line: &TreeLine, out: &mut O)
-    ensures { Sends (O.sending out.old) (O.sending out.new) (tree_line line.now) }
+    ensures { Sends (O.sending out.old) (O.sending out.new) (tree_line_text line.now) }
 {
     match line {
         TreeLine::Slack { row, k } => ("s ", Number(*row), " ", Number(*k), "\n").print(out),
@@ -124,7 +124,7 @@ fn print_line<O: Output>(line: &TreeLine, out: &mut O)
 /// These lines of a tree.
 #[tactic(auto, using(pesp_stream::proofs::Printing::sends_nothing, pesp_stream::proofs::Printing::sends_next, pesp_stream::proofs::Printing::sends_all))]
 pub fn print_tree<O: Output>(lines: &[TreeLine], out: &mut O)
-    ensures { Sends (O.sending out.old) (O.sending out.new) (flat_map tree_line lines.now) }
+    ensures { Sends (O.sending out.old) (O.sending out.new) (flat_map tree_line_text lines.now) }
 {
     for line in lines {
         print_line(line, out);

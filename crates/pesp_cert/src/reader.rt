@@ -15,7 +15,7 @@ use crate::front_draft::FrontDraft;
 use crate::fronted::Fronted;
 use crate::refusal::{CertRefusal, refusal_at};
 use pesp_cert_lines::{Item, Progress, Versions, take_line};
-use pesp_text::split_at_byte;
+use pesp_stream::split_at_byte;
 use pesp_truth::Marks;
 use std::alloc::Global;
 

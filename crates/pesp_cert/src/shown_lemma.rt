@@ -4,8 +4,7 @@ ghost use Rattle.std.specs.Prelude.{◌≡◌, IfOk, OnOk};
 ghost use Rattle.pesp_cert.specs.Drafts.{with_rows, shown_by};
 
 use pesp_cert_lines::{Item, LinePairs, MarkedRows, SignedRows};
-use pesp_nets::MarkedWalk;
-use pesp_problem::{Memory, Pair, Pairs, Walk};
+use pesp_problem::{MarkedWalk, Memory, Pair, Pairs, Walk};
 use pesp_truth::TreeLine;
 use std::alloc::Global;
 use std::marker::Model;
@@ -23,7 +22,7 @@ pub struct ShownLemma {
 }
 
 impl Model for ShownLemma {
-    ghost use Rattle.pesp_lemma.specs.Shown.{LemmaProof};
+    ghost use Rattle.pesp_truth.specs.Shown.{LemmaProof};
 
     ghost Value = { LemmaProof };
 

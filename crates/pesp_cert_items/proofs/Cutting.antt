@@ -7,9 +7,9 @@ use Rattle.pesp_cert_items.specs.declared.chunk.Front.TheVariants as fronts
 use Rattle.pesp_cert_items.specs.declared.lines.Next.TheVariants as nexts
 use Rattle.std.proofs.KnownBytes.{Consumes-nil, Consumes-trans}
 use Rattle.std.proofs.lemmas.List.Elements.{All-append, All-nil}
-use Rattle.pesp_text.specs.Words.{is_byte}
+use Rattle.pesp_stream.specs.Words.{is_byte}
 use Rattle.pesp_cert_lines.specs.Lines.{LONGEST}
-use Rattle.pesp_cert_items.specs.Cuts.{Clean, Reads, Advances, Moves}
+use Rattle.pesp_cert_items.specs.Cuts.{Clean, Reads, Advances, MovesChunk}
 
 -- the bytes so far that were read are what the reader lost, and with those that were held they are the line so far and what is held
 pub record IsCutTo (told told' : Option (List ℕ)) (left left' : ℕ) (held held' line' : List ℕ) : Type 0 where
@@ -38,7 +38,7 @@ range_behind xs a e m le =
 pub line_moved : (bytes : List ℕ) (start end at : ℕ) (self line line' : List ℕ)
     → slice_range bytes start end ≡ self → CutsAt (Some at) (slice_range bytes start end)
     → line' ≡ line ++ take at (slice_range bytes start end) → at ≤ LONGEST - length line → length line ≤ LONGEST
-    → Moves fronts.Line self line (slice_range bytes (start + (at + 1)) end) line'
+    → MovesChunk fronts.Line self line (slice_range bytes (start + (at + 1)) end) line'
 line_moved bytes start end at self line line' view cut is few short =
     let held = slice_range bytes start end in
     let few' : at + 1 ≤ end - start = omega (arith, cut.0, length-take (end - start) (drop start bytes)) in
@@ -53,7 +53,7 @@ line_moved bytes start end at self line line' view cut is few short =
 -- ---- the loop
 
 pub cut_line : (told told' : Option (List ℕ)) (left left' : ℕ) (held held' line' held'' line'' : List ℕ)
-    → IsCutTo told told' left left' held held' line' → Moves fronts.Line held' line' held'' line''
+    → IsCutTo told told' left left' held held' line' → MovesChunk fronts.Line held' line' held'' line''
     → Advances told told' left left' held held'' line'' nexts.Line
 cut_line told told' left left' held held' line' held'' line'' so_far m =
     record {
@@ -67,7 +67,7 @@ cut_line told told' left left' held held' line' held'' line'' so_far m =
     }
 
 pub cut_long : (told told' : Option (List ℕ)) (left left' : ℕ) (held held' line' held'' line'' : List ℕ)
-    → IsCutTo told told' left left' held held' line' → Moves fronts.Long held' line' held'' line''
+    → IsCutTo told told' left left' held held' line' → MovesChunk fronts.Long held' line' held'' line''
     → (h : List ℕ) (l : List ℕ) → Advances told told' left left' held h l nexts.Long
 cut_long told told' left left' held held' line' held'' line'' so_far m h l =
     record {
@@ -85,7 +85,7 @@ cut_long told told' left left' held held' line' held'' line'' so_far m h l =
 -- the piece that is read then
 pub cut_more : (told told' told'' : Option (List ℕ)) (left left' left'' : ℕ)
     (held held' line' held'' line'' piece : List ℕ) → IsCutTo told told' left left' held held' line'
-    → Moves fronts.Part held' line' held'' line''
+    → MovesChunk fronts.Part held' line' held'' line''
     → Consumes told' told'' piece → left'' + length piece ≡ left' → IsCutTo told told'' left left'' held piece line''
 cut_more told told' told'' left left' left'' held held' line' held'' line'' piece so_far m consumed within =
     record {
@@ -101,7 +101,7 @@ cut_more told told' told'' left left' left'' held held' line' held'' line'' piec
 
 pub cut_end : (told told' told'' : Option (List ℕ)) (left left' : ℕ)
     (held held' line' held'' line'' piece : List ℕ) → IsCutTo told told' left left' held held' line'
-    → Moves fronts.Part held' line' held'' line''
+    → MovesChunk fronts.Part held' line' held'' line''
     → Consumes told' told'' piece → 0 ≡ length piece → (0 < left' → IsAtEnd told'')
     → Advances told told'' left left' held piece line'' nexts.End
 cut_end told told' told'' left left' held held' line' held'' line'' piece so_far m consumed none end =

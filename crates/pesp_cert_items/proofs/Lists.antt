@@ -3,7 +3,7 @@ use Rattle.std.proofs.Common.{◌≡◌, ℕ, Bool, true, false, List, [], ◌�
 use Rattle.std.specs.Prelude.{codes}
 use Rattle.pesp_problem.specs.declared.row.SignedRow.{SignedRow}
 use Rattle.pesp_problem.specs.declared.pair.Pair.{Pair}
-use Rattle.pesp_text.specs.Words.{words_of}
+use Rattle.pesp_stream.specs.Words.{words_of}
 use Rattle.pesp_cert_lines.specs.declared.item.Item.{Item}
 use Rattle.pesp_cert_lines.specs.declared.item.Item.TheVariants.{Front, Scale, Walk, Lemma, Least, Version, Period, Answer as Says, Time, Cycle, Slack, Offset, Bound, Nothing, Gap, Propagated, End}
 use Rattle.pesp_cert_lines.specs.declared.progress.Progress.{Progress}
@@ -11,7 +11,7 @@ use Rattle.pesp_cert_lines.specs.Rows.{rows_of, rows_are_named, row_words}
 use Rattle.pesp_cert_lines.specs.Pairs.{pairs_from, all_within, pair_words}
 use Rattle.pesp_cert_lines.specs.Marked.{marked_of, marked_words}
 use Rattle.pesp_cert_lines.specs.Items.{item_words}
-use Rattle.pesp_cert_lines.specs.Counts.{after}
+use Rattle.pesp_cert_lines.specs.Counts.{progress_after}
 use Rattle.pesp_cert_lines.specs.Lines.{SpellsItem, line_at}
 use Rattle.pesp_cert_lines.proofs.MarkedLaws.{marked_words_read}
 use Rattle.pesp_cert_lines.proofs.LineLaws.{words_of-item}
@@ -25,7 +25,7 @@ use Rattle.pesp_cert_items.specs.declared.marked.MarkedRows.{MarkedRows}
 use Rattle.pesp_cert_items.specs.declared.text_line.TextLine.{TextLine}
 use Rattle.pesp_cert_items.specs.declared.text_line.TextLine.TheVariants as texts
 use Rattle.pesp_cert_items.specs.Plain.{in_front}
-use Rattle.pesp_cert_items.specs.Lent.{rows_in, pairs_in, marked_in, listed, bare, read_back, IsSpelt, line_said, line_back, is_own, IsLineSpelt}
+use Rattle.pesp_cert_items.specs.Lent.{rows_in, pairs_left_in, marked_in, listed, bare, read_back, IsSpelt, item_said, line_back, is_own, IsLineSpelt}
 use Rattle.pesp_cert_items.specs.Readings.{IsItem}
 use Rattle.pesp_cert_items.proofs.PlainLaws.{plain_item, plain_after}
 
@@ -176,7 +176,7 @@ own_item (lent.Gap cycle) = refl
 own_item lent.Propagated = refl
 
 -- a line that isn't a front's is an item's
-own_of : (said : TextLine) (item : Item) → in_front item ≡ false → line_said said ≡ bare item → is_own said ≡ true
+own_of : (said : TextLine) (item : Item) → in_front item ≡ false → item_said said ≡ bare item → is_own said ≡ true
 own_of texts.Front item h e = let bad : true ≡ in_front item = ap in_front e ∙ bare_front item in absurd cc
 own_of (texts.Scale n) item h e = let bad : true ≡ in_front item = ap in_front e ∙ bare_front item in absurd cc
 own_of (texts.Walk walk) item h e = let bad : true ≡ in_front item = ap in_front e ∙ bare_front item in absurd cc
@@ -198,7 +198,7 @@ walk_kept p walk line (Walk rows) s h =
 walk_kept p walk line item s h = absurd cc
 
 lemma_kept : (p : Progress) (pairs : LinePairs) (line : List ℕ) (item : Item) → SpellsItem p line item
-    → Lemma (pairs_in pairs) ≡ bare item → IsKeptLine (texts.Lemma pairs) line item
+    → Lemma (pairs_left_in pairs) ≡ bare item → IsKeptLine (texts.Lemma pairs) line item
 lemma_kept p pairs line (Lemma ps) s h =
     let read : pairs_from 0 (drop 1 (words_of line)) ≡ Some ps =
     ap (pairs_from 0) (behind p (Lemma ps) line (codes "lemma") (pair_words ps) s refl) ∙ pairs_read 0 ps s.1.proper s.1.within in
@@ -206,7 +206,7 @@ lemma_kept p pairs line (Lemma ps) s h =
 lemma_kept p pairs line item s h = absurd cc
 
 line_kept : (p : Progress) (said : TextLine) (line : List ℕ) (item : Item) → SpellsItem p line item
-    → is_end item ≡ false → line_said said ≡ bare item → IsKeptLine said line item
+    → is_end item ≡ false → item_said said ≡ bare item → IsKeptLine said line item
 line_kept p texts.Front line item s e h =
     let plain : has_list item ≡ false = sym (bare_list item) ∙ ap has_list (sym h) in
     record { says = h ∙ bare_is item plain; spelt = tt }
@@ -224,7 +224,7 @@ line_kept p (texts.Own own) line item s e h =
     record { says = kept.says; spelt = kept.spelt }
 
 pub is_item : (p q : Progress) (said : TextLine) (line : List ℕ) (item : Item) → line_at p line ≡ Ok item → SpellsItem p line item
-    → q ≡ after p item → is_end item ≡ false → line_said said ≡ bare item → IsItem p q line said item
+    → q ≡ progress_after p item → is_end item ≡ false → item_said said ≡ bare item → IsItem p q line said item
 is_item p q said line item says s goes e h =
     let kept = line_kept p said line item s e h in
     record {
@@ -243,7 +243,7 @@ pub no_rows : (r : SignedRows) → r.words ≡ None → rows_in r ≡ []
 unfolding rows_of
 no_rows r e = rw e refl
 
-pub no_pairs : (p : LinePairs) → p.words ≡ None → pairs_in p ≡ []
+pub no_pairs : (p : LinePairs) → p.words ≡ None → pairs_left_in p ≡ []
 unfolding pairs_from
 no_pairs p e = rw e refl
 

@@ -9,7 +9,7 @@ use Rattle.pesp_cert_lines.specs.declared.progress.Place.{Place}
 use Rattle.pesp_cert_lines.specs.declared.progress.Place.TheVariants as places
 use Rattle.pesp_cert_lines.specs.declared.progress.Progress.{Progress}
 use Rattle.pesp_cert_lines.specs.declared.versions.Versions.{Versions}
-use Rattle.pesp_cert_lines.specs.Counts.{is_version_kind, is_front_kind, is_period_kind, is_answer_kind, is_time_kind, is_cycle_kind, is_tree_kind, is_end_kind, may_follow, may_end, has_kind, allows, takes_fronts, is_in_front, after, CanStand}
+use Rattle.pesp_cert_lines.specs.Counts.{is_version_kind, is_front_kind, is_period_kind, is_answer_kind, is_time_kind, is_cycle_kind, is_tree_kind, is_end_kind, may_follow, may_end, has_kind, allows, takes_fronts, is_in_front, progress_after, CanStand}
 use Rattle.pesp_cert_items.specs.Plain.{in_front, IsPlain}
 
 -- the lines show no lemma
@@ -112,13 +112,13 @@ plain_item p (Gap cycle) plain can = refl
 plain_item p Propagated plain can = refl
 plain_item p End plain can = refl
 
-pub plain_after : (p q : Progress) (item : Item) → IsPlain p → CanStand p item → q ≡ after p item → IsPlain q
+pub plain_after : (p q : Progress) (item : Item) → IsPlain p → CanStand p item → q ≡ progress_after p item → IsPlain q
 plain_after p q item plain can e = rw e (go item (plain_item p item plain can))
   where
     open_is : p.shows ≡ false
     open_is = not_shown p.place p.shows plain.place
 
-    go : (item : Item) → in_front item ≡ false → IsPlain (after p item)
+    go : (item : Item) → in_front item ≡ false → IsPlain (progress_after p item)
     go Front h = absurd cc
     go (Scale n) h = absurd cc
     go (Walk walk) h = absurd cc

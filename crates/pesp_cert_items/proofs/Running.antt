@@ -11,7 +11,7 @@ use Rattle.pesp_cert_items.specs.declared.stage.Stage.{Stage}
 use Rattle.pesp_cert_items.specs.declared.stage.Stage.TheVariants as stages
 use Rattle.pesp_cert_items.specs.declared.fault.ItemFault.{ItemFault}
 use Rattle.pesp_cert_items.specs.Cuts.{Reads}
-use Rattle.pesp_cert_items.specs.Readings.{Reading, items_at, is_open, IsOver, Goes, Ends, Refuses, Gives, Answers}
+use Rattle.pesp_cert_items.specs.Readings.{Reading, items_at, is_going, IsReadWhole, ReadsOn, TextEnds, RefusesReading, GivesItem, AnswersNext}
 use Rattle.pesp_cert_items.proofs.Stepping.{reads_then}
 
 -- these items came so far, and what is left gives the others
@@ -24,7 +24,7 @@ pub record Runs (old now : Reading) (items : List Item) : Type 0 where
 pub record Ran (old new : Reading) (items : List Item) : Type 0 where
   pub got : List ℕ
   pub reads : Reads old.told new.told old.left new.left got
-  pub over : IsOver new
+  pub over : IsReadWhole new
   pub says : items_at old (old.held ++ got) ≡ Ok (items ++ End ∷ [])
 
 behind_none : (r : Result (List Item) CertRefusal) → r ≡ behind [] r
@@ -43,7 +43,7 @@ runs_none r = record {
   says = λ more. behind_none (items_at r (r.held ++ more));
 }
 
-pub runs_more : (a b c : Reading) (items : List Item) (item : Item) → Runs a b items → Goes b c (onto item) → Runs a c (items ++ item ∷ [])
+pub runs_more : (a b c : Reading) (items : List Item) (item : Item) → Runs a b items → ReadsOn b c (onto item) → Runs a c (items ++ item ∷ [])
 runs_more a b c items item p q = record {
   got = p.got ++ q.got;
   reads = reads_then _ _ _ _ _ _ p.got q.got p.reads q.reads;
@@ -52,7 +52,7 @@ runs_more a b c items item p q = record {
       ∙ ap (behind items) (q.says more) ∙ behind_more items item (items_at c (c.held ++ more));
 }
 
-pub runs_all : (a b c : Reading) (items : List Item) → Runs a b items → Ends b c → Ran a c items
+pub runs_all : (a b c : Reading) (items : List Item) → Runs a b items → TextEnds b c → Ran a c items
 runs_all a b c items p e = record {
   got = p.got ++ e.got;
   reads = reads_then _ _ _ _ _ _ p.got e.got p.reads e.reads;
@@ -60,7 +60,7 @@ runs_all a b c items p e = record {
   says = p.says e.got ∙ ap (behind items) e.says;
 }
 
-pub runs_refused : (a b c : Reading) (items : List Item) (r : CertRefusal) → Runs a b items → Refuses b c r → Refuses a c r
+pub runs_refused : (a b c : Reading) (items : List Item) (r : CertRefusal) → Runs a b items → RefusesReading b c r → RefusesReading a c r
 runs_refused a b c items r p q = record {
   got = p.got ++ q.got;
   reads = reads_then _ _ _ _ _ _ p.got q.got p.reads q.reads;
@@ -69,8 +69,8 @@ runs_refused a b c items r p q = record {
 }
 
 -- what a call answers while none answered None or a fault
-pub gives_of : (stage : Stage) (old new : Reading) (r : Result (Option Item) ItemFault) → is_open stage ≡ true
-    → Answers stage old new r → Gives old new r
+pub gives_of : (stage : Stage) (old new : Reading) (r : Result (Option Item) ItemFault) → is_going stage ≡ true
+    → AnswersNext stage old new r → GivesItem old new r
 gives_of stages.Going old new r o a = a
 gives_of stages.Ended old new r o a = absurd cc
 gives_of (stages.Failed f) old new r o a = absurd cc

@@ -6,12 +6,12 @@ use Rattle.std.proofs.KnownBytes.{Consumes-trans}
 use Rattle.std.proofs.lemmas.Bool.Decides.{nat_tests}
 use Rattle.std.proofs.lemmas.List.Elements.{All-head, All-tail}
 use Rattle.std.proofs.lemmas.List.Splits.{slice_split_at, slice_split_none, slice_split-cons_no}
-use Rattle.pesp_text.specs.Words.{is_byte, pieces}
+use Rattle.pesp_stream.specs.Words.{is_byte, pieces}
 use Rattle.pesp_cert_lines.specs.declared.fault.LineFault.{LineFault}
 use Rattle.pesp_cert_lines.specs.declared.item.Item.{Item}
 use Rattle.pesp_cert_lines.specs.declared.item.Item.TheVariants.{End}
 use Rattle.pesp_cert_lines.specs.declared.progress.Progress.{Progress}
-use Rattle.pesp_cert_lines.specs.Counts.{after}
+use Rattle.pesp_cert_lines.specs.Counts.{progress_after}
 use Rattle.pesp_cert_lines.specs.Lines.{line_at, LONGEST}
 use Rattle.pesp_cert.specs.declared.refusal.CertRefusal.TheVariants as refusals
 use Rattle.pesp_cert.specs.Texts.{is_end}
@@ -21,7 +21,7 @@ use Rattle.pesp_cert_items.specs.declared.lines.Next.TheVariants as nexts
 use Rattle.pesp_cert_items.specs.declared.stage.Stage.{Stage}
 use Rattle.pesp_cert_items.specs.declared.stage.Stage.TheVariants as stages
 use Rattle.pesp_cert_items.specs.Cuts.{Clean, Reads, Advances, EndsHere}
-use Rattle.pesp_cert_items.specs.Readings.{Reading, items_at, items_behind, is_open, Goes, Lines, Ends, Refuses}
+use Rattle.pesp_cert_items.specs.Readings.{Reading, items_at, items_behind, is_going, ReadsOn, Lines, TextEnds, RefusesReading}
 
 -- ---- pieces
 
@@ -78,7 +78,7 @@ line_counted told told' left left' held held' line' n a le =
 
 -- ---- a line that is too long, or has no LF
 
-long_says : (stage : Stage) (n : ℕ) (p : Progress) (text line : List ℕ) (ps : List (List ℕ)) → is_open stage ≡ true
+long_says : (stage : Stage) (n : ℕ) (p : Progress) (text line : List ℕ) (ps : List (List ℕ)) → is_going stage ≡ true
     → pieces 10 text ≡ line ∷ ps → LONGEST < length line
     → items_at (record { told = None; left = 0; held = []; n = n; progress = p; stage = stage }) text ≡ Err (refusals.Limit (n + 1))
 long_says stages.Going n p text line ps o cut long = rw cut (at_long (n + 1) p line ps long)
@@ -86,9 +86,9 @@ long_says stages.Ended n p text line ps o cut long = absurd cc
 long_says (stages.Failed f) n p text line ps o cut long = absurd cc
 
 pub long_refused : (told told' : Option (List ℕ)) (left left' : ℕ) (held held' line' : List ℕ) (n : ℕ)
-    (p : Progress) (stage stage' : Stage) → is_open stage ≡ true
+    (p : Progress) (stage stage' : Stage) → is_going stage ≡ true
     → Advances told told' left left' held held' line' nexts.Long
-    → Refuses (record { told = told; left = left; held = held; n = n; progress = p; stage = stage })
+    → RefusesReading (record { told = told; left = left; held = held; n = n; progress = p; stage = stage })
     (record { told = told'; left = left'; held = held'; n = n; progress = p; stage = stage' })
     (refusals.Limit (n + 1))
 long_refused told told' left left' held held' line' n p stage stage' o a =
@@ -105,7 +105,7 @@ long_refused told told' left left' held held' line' n p stage stage' o a =
           (omega (arith, length-append front next.0, a.reaches.4));
     }
 
-cut_says : (stage : Stage) (n : ℕ) (p : Progress) (text line : List ℕ) → is_open stage ≡ true
+cut_says : (stage : Stage) (n : ℕ) (p : Progress) (text line : List ℕ) → is_going stage ≡ true
     → pieces 10 text ≡ line ∷ [] → length line ≤ LONGEST
     → items_at (record { told = None; left = 0; held = []; n = n; progress = p; stage = stage }) text ≡ Err refusals.Truncated
 cut_says stages.Going n p text line o cut short = rw cut (at_last (n + 1) p line short)
@@ -113,9 +113,9 @@ cut_says stages.Ended n p text line o cut short = absurd cc
 cut_says (stages.Failed f) n p text line o cut short = absurd cc
 
 pub cut_refused : (told told' : Option (List ℕ)) (left left' : ℕ) (held held' line' : List ℕ) (n : ℕ)
-    (p : Progress) (stage stage' : Stage) → is_open stage ≡ true
+    (p : Progress) (stage stage' : Stage) → is_going stage ≡ true
     → Advances told told' left left' held held' line' nexts.End
-    → Refuses (record { told = told; left = left; held = held; n = n; progress = p; stage = stage })
+    → RefusesReading (record { told = told; left = left; held = held; n = n; progress = p; stage = stage })
     (record { told = told'; left = left'; held = held'; n = n; progress = p; stage = stage' })
     refusals.Truncated
 cut_refused told told' left left' held held' line' n p stage stage' o a =
@@ -141,7 +141,7 @@ pub fault_read : (old : Reading) (told' : Option (List ℕ)) (left' : ℕ) (held
     (p p' : Progress) (f : LineFault) (stage : Stage)
     → Lines old (record { told = told'; left = left'; held = held'; n = n; progress = p; stage = stages.Going })
     line → line_at p line ≡ Err f
-    → Refuses old (record { told = told'; left = left'; held = held'; n = n; progress = p'; stage = stage }) (refusal_at n f)
+    → RefusesReading old (record { told = told'; left = left'; held = held'; n = n; progress = p'; stage = stage }) (refusal_at n f)
 fault_read old told' left' held' line n p p' f stage l h = record {
   got = l.got;
   reads = l.reads;
@@ -152,8 +152,8 @@ fault_read old told' left' held' line n p p' f stage l h = record {
 
 pub item_read : (old : Reading) (told' : Option (List ℕ)) (left' : ℕ) (held' line : List ℕ) (n : ℕ) (p q : Progress) (item : Item)
     → Lines old (record { told = told'; left = left'; held = held'; n = n; progress = p; stage = stages.Going })
-    line → line_at p line ≡ Ok item → is_end item ≡ false → q ≡ after p item
-    → Goes old (record { told = told'; left = left'; held = held'; n = n; progress = q; stage = stages.Going }) (onto item)
+    line → line_at p line ≡ Ok item → is_end item ≡ false → q ≡ progress_after p item
+    → ReadsOn old (record { told = told'; left = left'; held = held'; n = n; progress = q; stage = stages.Going }) (onto item)
 item_read old told' left' held' line n p q item l h e goes = record {
   got = l.got;
   reads = l.reads;
@@ -168,7 +168,7 @@ item_read old told' left' held' line n p q item l h e goes = record {
 pub ends_there : (old : Reading) (told' told'' : Option (List ℕ)) (left' left'' : ℕ) (held' held'' line : List ℕ) (n : ℕ) (p : Progress)
     → Lines old (record { told = told'; left = left'; held = held'; n = n; progress = p; stage = stages.Going })
     line → line_at p line ≡ Ok End → EndsHere told' told'' left' left'' held' true
-    → Ends old (record { told = told''; left = left''; held = held''; n = n; progress = p; stage = stages.Ended })
+    → TextEnds old (record { told = told''; left = left''; held = held''; n = n; progress = p; stage = stages.Ended })
 ends_there old told' told'' left' left'' held' held'' line n p l h e = record {
   got = l.got ++ e.got;
   reads = reads_then _ _ _ _ _ _ l.got e.got l.reads e.reads;
@@ -180,7 +180,7 @@ pub trails : (old : Reading) (told' told'' : Option (List ℕ)) (left' left'' : 
     (n : ℕ) (p : Progress) (stage : Stage)
     → Lines old (record { told = told'; left = left'; held = held'; n = n; progress = p; stage = stages.Going })
     line → line_at p line ≡ Ok End → EndsHere told' told'' left' left'' held' false
-    → Refuses old (record { told = told''; left = left''; held = held''; n = n; progress = p; stage = stage }) (refusals.Trailing (n + 1))
+    → RefusesReading old (record { told = told''; left = left''; held = held''; n = n; progress = p; stage = stage }) (refusals.Trailing (n + 1))
 trails old told' told'' left' left'' held' held'' line n p stage l h e = record {
   got = l.got ++ e.got;
   reads = reads_then _ _ _ _ _ _ l.got e.got l.reads e.reads;

@@ -10,7 +10,7 @@ use Rattle.pesp_cert_lines.specs.Counts.{beginning}
 use Rattle.pesp_cert.specs.declared.refusal.CertRefusal.{CertRefusal}
 use Rattle.pesp_cert.specs.Refusals.{items_of_text}
 use Rattle.pesp_cert_items.specs.declared.stage.Stage.TheVariants as stages
-use Rattle.pesp_cert_items.specs.Readings.{Reading, IsOver, Refuses}
+use Rattle.pesp_cert_items.specs.Readings.{Reading, IsReadWhole, RefusesReading}
 use Rattle.pesp_cert_items.specs.Texts.{RefusesText}
 use Rattle.pesp_cert_items.proofs.Running.{Ran}
 
@@ -59,7 +59,7 @@ ran_text versions told limit new items ran = (
 )
 
 pub refused_text : (versions : Versions) (told : Option (List ℕ)) (limit : ℕ) (new : Reading) (r : CertRefusal)
-    → Refuses (at_first versions told limit) new r → RefusesText versions told new.told limit r
+    → RefusesReading (at_first versions told limit) new r → RefusesText versions told new.told limit r
 unfolding items_of_text
 refused_text versions told limit new r f = record {
   read = f.got;
@@ -68,6 +68,6 @@ refused_text versions told limit new r f = record {
   first = λ more over. f.says more (λ o. over (full o));
 }
   where
-    full : IsOver new → (length f.got ≡ limit) ⊎ IsAtEnd new.told
+    full : IsReadWhole new → (length f.got ≡ limit) ⊎ IsAtEnd new.told
     full (inl e) = inl (omega (arith, e, f.reads.within))
     full (inr e) = inr e

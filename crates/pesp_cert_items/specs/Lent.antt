@@ -3,8 +3,8 @@ use Rattle.std.specs.Prelude.{◌≡◌, ℕ, Bool, true, false, List, [], drop,
 use Rattle.std.specs.Option.{option_copied}
 use Rattle.pesp_problem.specs.declared.row.SignedRow.{SignedRow}
 use Rattle.pesp_problem.specs.declared.pair.Pair.{Pair}
-use Rattle.pesp_nets.specs.declared.marked.MarkedRow.{MarkedRow}
-use Rattle.pesp_text.specs.Words.{words_of, pieces_left}
+use Rattle.pesp_problem.specs.declared.marked.MarkedRow.{MarkedRow}
+use Rattle.pesp_stream.specs.Words.{words_of, pieces_left}
 use Rattle.pesp_cert_lines.specs.declared.item.Item.{Item}
 use Rattle.pesp_cert_lines.specs.declared.item.Item.TheVariants as items
 use Rattle.pesp_cert_lines.specs.Rows.{rows_of, rows_left, rows_are_good}
@@ -24,8 +24,8 @@ abbrev pub rows_in : SignedRows → List SignedRow
 rows_in r = rows_left (rows_of (pieces_left 32 (option_copied r.words)))
 
 -- the pairs that are left in the line
-abbrev pub pairs_in : LinePairs → List Pair
-pairs_in p = pairs_left (pairs_from p.least (pieces_left 32 (option_copied p.words)))
+abbrev pub pairs_left_in : LinePairs → List Pair
+pairs_left_in p = pairs_left (pairs_from p.least (pieces_left 32 (option_copied p.words)))
 
 -- the marked rows that are left in the line
 abbrev pub marked_in : MarkedRows → List MarkedRow
@@ -40,8 +40,8 @@ listed (lent.Time label time) = items.Time label time
 listed (lent.Cycle rows) = items.Cycle (rows_in rows)
 listed (lent.Slack row k) = items.Slack row k
 listed (lent.Offset cycle k) = items.Offset cycle k
-listed (lent.Bound pairs) = items.Bound (pairs_in pairs)
-listed (lent.Nothing pairs) = items.Nothing (pairs_in pairs)
+listed (lent.Bound pairs) = items.Bound (pairs_left_in pairs)
+listed (lent.Nothing pairs) = items.Nothing (pairs_left_in pairs)
 listed (lent.Gap cycle) = items.Gap cycle
 listed lent.Propagated = items.Propagated
 
@@ -77,13 +77,13 @@ said_by (Err fault) = Err fault
 -- ---- a line of a front, or an item
 
 -- the line's item with its list
-abbrev pub line_said : TextLine → Item
-line_said Front = items.Front
-line_said (Scale n) = items.Scale n
-line_said (Walk walk) = items.Walk (marked_in walk)
-line_said (Lemma pairs) = items.Lemma (pairs_in pairs)
-line_said (Least n) = items.Least n
-line_said (Own item) = listed item
+abbrev pub item_said : TextLine → Item
+item_said Front = items.Front
+item_said (Scale n) = items.Scale n
+item_said (Walk walk) = items.Walk (marked_in walk)
+item_said (Lemma pairs) = items.Lemma (pairs_left_in pairs)
+item_said (Least n) = items.Least n
+item_said (Own item) = listed item
 
 -- it is no line of a front
 abbrev pub is_own : TextLine → Bool
@@ -109,5 +109,5 @@ IsLineSpelt said line = Unit {0}
 -- what a call of a reader of lines answers
 abbrev pub told_by : Result (Option TextLine) ItemFault → Result (Option Item) ItemFault
 told_by (Ok None) = Ok None
-told_by (Ok (Some line)) = Ok (Some (line_said line))
+told_by (Ok (Some line)) = Ok (Some (item_said line))
 told_by (Err fault) = Err fault

@@ -5,3 +5,8 @@ pub mod Plain
 pub mod Readings
 pub mod Texts
 pub mod Views
+pub mod Works
+pub mod Lines
+pub mod Refusals
+pub mod Steps
+pub mod Print

@@ -2,11 +2,11 @@
 use Rattle.std.specs.Prelude.{◌≡◌, ◌⊎◌, ℕ, ◌+◌, ◌<◌, ◌≤◌, Bool, true, false, List, [], ◌∷◌, ◌++◌, length, Option, Some, None, Result, Ok, Err}
 use Rattle.std.specs.Io.KnownBytes.{IsAtEnd}
 use Rattle.pesp_stream.specs.Counts.{Calls, Worked, Failed}
-use Rattle.pesp_text.specs.Words.{pieces}
+use Rattle.pesp_stream.specs.Words.{pieces}
 use Rattle.pesp_cert_lines.specs.declared.item.Item.{Item}
 use Rattle.pesp_cert_lines.specs.declared.item.Item.TheVariants.{End}
 use Rattle.pesp_cert_lines.specs.declared.progress.Progress.{Progress}
-use Rattle.pesp_cert_lines.specs.Counts.{after, CanStand}
+use Rattle.pesp_cert_lines.specs.Counts.{progress_after, CanStand}
 use Rattle.pesp_cert_lines.specs.Lines.{line_at, LONGEST}
 use Rattle.pesp_cert_lines.specs.declared.fault.LineFault.{LineFault}
 use Rattle.pesp_cert.specs.declared.refusal.CertRefusal.{CertRefusal}
@@ -33,10 +33,10 @@ pub record Reading : Type 0 where
   pub stage : Stage
 
 -- nothing was given up, and the end wasn't seen
-abbrev pub is_open : Stage → Bool
-is_open stages.Going = true
-is_open stages.Ended = false
-is_open (stages.Failed fault) = false
+abbrev pub is_going : Stage → Bool
+is_going stages.Going = true
+is_going stages.Ended = false
+is_going (stages.Failed fault) = false
 
 -- what a text says behind line n, by the stage; nothing more where it ended or was given up
 abbrev pub items_in : Stage → ℕ → Progress → List ℕ → Result (List Item) CertRefusal
@@ -49,11 +49,11 @@ abbrev pub items_at : Reading → List ℕ → Result (List Item) CertRefusal
 items_at r text = items_in r.stage r.n r.progress text
 
 -- the text has no more bytes than were read, or no more of it is judged
-abbrev pub IsOver : Reading → Type 0
-IsOver r = (r.left ≡ 0) ⊎ IsAtEnd r.told
+abbrev pub IsReadWhole : Reading → Type 0
+IsReadWhole r = (r.left ≡ 0) ⊎ IsAtEnd r.told
 
 -- some bytes were read; whatever stands behind them, what was held and they and that say is made of what is left says
-pub record Goes (old new : Reading) (made : Result (List Item) CertRefusal → Result (List Item) CertRefusal) : Type 0 where
+pub record ReadsOn (old new : Reading) (made : Result (List Item) CertRefusal → Result (List Item) CertRefusal) : Type 0 where
   pub got : List ℕ
   pub reads : Reads old.told new.told old.left new.left got
   pub later : old.n < new.n
@@ -78,7 +78,7 @@ pub record Lines (old new : Reading) (line : List ℕ) : Type 0 where
 pub record IsItem (old new : Progress) (line : List ℕ) (said : TextLine) (item : Item) : Type 0 where
   pub says : line_at old line ≡ Ok item
   pub more : is_end item ≡ false
-  pub goes : new ≡ after old item
+  pub goes : new ≡ progress_after old item
   pub can : CanStand old item
   pub kept : line_back said line ≡ item
   pub spelt : IsLineSpelt said line
@@ -91,22 +91,22 @@ Says old new line said (Ok false) = (line_at old line ≡ Ok End) × (new ≡ ol
 Says old new line said (Err fault) = (line_at old line ≡ Err fault) × (new ≡ old)
 
 -- the text ends behind its last line
-pub record Ends (old new : Reading) : Type 0 where
+pub record TextEnds (old new : Reading) : Type 0 where
   pub got : List ℕ
   pub reads : Reads old.told new.told old.left new.left got
-  pub over : IsOver new
+  pub over : IsReadWhole new
   pub says : items_at old (old.held ++ got) ≡ Ok (End ∷ [])
 
 -- whatever stands behind what was read, the text's first fault is this one; nothing stands behind it where the text is over
-pub record Refuses (old new : Reading) (r : CertRefusal) : Type 0 where
+pub record RefusesReading (old new : Reading) (r : CertRefusal) : Type 0 where
   pub got : List ℕ
   pub reads : Reads old.told new.told old.left new.left got
-  pub says : (more : List ℕ) → (IsOver new → more ≡ []) → items_at old (old.held ++ (got ++ more)) ≡ Err r
+  pub says : (more : List ℕ) → (IsReadWhole new → more ≡ []) → items_at old (old.held ++ (got ++ more)) ≡ Err r
 
 -- why it was given up, unless a growth was refused or the device failed
-abbrev pub Faults : Reading → Reading → ItemFault → Type 0
-Faults old new (Text r) = (r ≡ refusals.Memory) ⊎ Refuses old new r
-Faults old new Read = Unit {0}
+abbrev pub IsItemFault : Reading → Reading → ItemFault → Type 0
+IsItemFault old new (Text r) = (r ≡ refusals.Memory) ⊎ RefusesReading old new r
+IsItemFault old new Read = Unit {0}
 
 -- a device is blamed where it failed, and a text where it worked
 abbrev pub Blamed : ItemFault → Calls → ℕ → Calls → Type 0
@@ -120,14 +120,14 @@ stepped item (Ok false) = Ok None
 stepped item (Err fault) = Err fault
 
 -- what the next item is, which may stand somewhere in a text, or that none comes any more, and why
-abbrev pub Gives : Reading → Reading → Result (Option Item) ItemFault → Type 0
-Gives old new (Ok (Some item)) = (new.stage ≡ stages.Going) × (is_end item ≡ false) × Goes old new (onto item)
+abbrev pub GivesItem : Reading → Reading → Result (Option Item) ItemFault → Type 0
+GivesItem old new (Ok (Some item)) = (new.stage ≡ stages.Going) × (is_end item ≡ false) × ReadsOn old new (onto item)
     × ((p : Progress) × CanStand p item)
-Gives old new (Ok None) = (new.stage ≡ stages.Ended) × Ends old new
-Gives old new (Err fault) = (new.stage ≡ stages.Failed fault) × Faults old new fault
+GivesItem old new (Ok None) = (new.stage ≡ stages.Ended) × TextEnds old new
+GivesItem old new (Err fault) = (new.stage ≡ stages.Failed fault) × IsItemFault old new fault
 
 -- the same, also where none came before
-abbrev pub Answers : Stage → Reading → Reading → Result (Option Item) ItemFault → Type 0
-Answers stages.Going old new result = Gives old new result
-Answers stages.Ended old new result = (result ≡ Ok None) × (new ≡ old)
-Answers (stages.Failed fault) old new result = (result ≡ Err fault) × (new ≡ old)
+abbrev pub AnswersNext : Stage → Reading → Reading → Result (Option Item) ItemFault → Type 0
+AnswersNext stages.Going old new result = GivesItem old new result
+AnswersNext stages.Ended old new result = (result ≡ Ok None) × (new ≡ old)
+AnswersNext (stages.Failed fault) old new result = (result ≡ Err fault) × (new ≡ old)

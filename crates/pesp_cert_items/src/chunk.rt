@@ -49,7 +49,7 @@ fn first_lf(bytes: &[u8]) -> Option<usize>
 }
 
 impl Chunk {
-    ghost use Rattle.pesp_cert_items.specs.Cuts.{Moves};
+    ghost use Rattle.pesp_cert_items.specs.Cuts.{MovesChunk};
 
     /// Nothing was read.
     pub fn new() -> Chunk
@@ -98,7 +98,7 @@ impl Chunk {
     pub fn take_front(&mut self, line: &mut Vec<u8>) -> Result<Front, AllocError>
         requires { length line.old.items ≤ LONGEST }
         ensures { IfOk result
-            (λ front. Moves front self.old line.old.items self.new line.new.items) }
+            (λ front. MovesChunk front self.old line.old.items self.new line.new.items) }
     {
         let held = &self.bytes[self.start..self.end];
         match first_lf(held) {

@@ -4,11 +4,11 @@ ghost use Rattle.std.below.core.specs.declared.int.u64.TheConstants.{MAX};
 ghost use Rattle.std.specs.Borrow.{sem};
 ghost use Rattle.std.specs.Io.BufRead.{Rests};
 ghost use Rattle.pesp_stream.specs.Counts.{Worked};
-ghost use Rattle.pesp_cert_lines.specs.Counts.{IsKept, beginning};
+ghost use Rattle.pesp_cert_lines.specs.Counts.{ProgressIsKept, beginning};
 ghost use Rattle.pesp_cert_lines.specs.Lines.{LONGEST};
 ghost use Rattle.pesp_cert_items.specs.Plain.{IsPlain};
 ghost use Rattle.pesp_cert_items.specs.declared.stage.Stage.TheVariants as stages;
-ghost use Rattle.pesp_cert_items.specs.Readings.{is_open};
+ghost use Rattle.pesp_cert_items.specs.Readings.{is_going};
 
 use crate::fault::ItemFault;
 use crate::item::Item;
@@ -32,15 +32,15 @@ pub struct ItemReader {
     said: TextLine<'static>,
     stage: Stage,
     ghost most_fits: { most < MAX },
-    ghost kept: { IsKept progress },
-    ghost counted: { is_open stage ≡ true → n + (lines.left + length lines.chunk) ≤ 1073741824 },
+    ghost kept: { ProgressIsKept progress },
+    ghost counted: { is_going stage ≡ true → n + (lines.left + length lines.chunk) ≤ 1073741824 },
 }
 
 impl ItemReader {
     ghost use Rattle.pesp_cert_items.specs.contracts.item_reader.ItemReader.{the_row};
     ghost use Rattle.pesp_cert_items.specs.Views.{reading, reading_line};
-    ghost use Rattle.pesp_cert_items.specs.Lent.{listed, line_said, line_back, is_own, IsLineSpelt, told_by};
-    ghost use Rattle.pesp_cert_items.specs.Readings.{Answers, Gives, Lines, Says, Faults, Blamed, stepped};
+    ghost use Rattle.pesp_cert_items.specs.Lent.{listed, item_said, line_back, is_own, IsLineSpelt, told_by};
+    ghost use Rattle.pesp_cert_items.specs.Readings.{AnswersNext, GivesItem, Lines, Says, IsItemFault, Blamed, stepped};
 
     /// The lines of a reader's text, where these versions are taken; no more than `most` of its calls may be interrupted.
     pub fn new(alloc: Global, most: u64, versions: Versions) -> ItemReader
@@ -68,7 +68,7 @@ impl ItemReader {
 
     /// Reads the next line.
     fn read_line<S: Source>(&mut self, source: &mut S) -> Result<(), ItemFault>
-        requires open { is_open self.old.stage ≡ true }
+        requires open { is_going self.old.stage ≡ true }
         requires failed_fits { (S.calls source.old).failed < u64.MAX }
         requires interrupted_fits { (S.calls source.old).interrupted ≤ self.old.most }
         ensures most { self.new.most ≡ self.old.most }
@@ -81,7 +81,7 @@ impl ItemReader {
         ensures line { OnOk result (Lines (reading (S.remaining source.old) self.old)
             (reading_line (S.remaining source.new) self.new) self.new.lines.line.items) }
         ensures stage { IfErr result (λ fault. self.new.stage ≡ stages.Failed fault) }
-        ensures fault { IfErr result (λ fault. Faults (reading (S.remaining source.old) self.old)
+        ensures fault { IfErr result (λ fault. IsItemFault (reading (S.remaining source.old) self.old)
             (reading (S.remaining source.new) self.new) fault) }
         ensures blamed { IfErr result (λ fault. Blamed fault (S.calls source.old)
             self.old.most (S.calls source.new)) }
@@ -137,7 +137,7 @@ impl ItemReader {
         ensures most { self.new.most ≡ self.old.most }
         ensures failed { OnOk result
             (Worked (S.calls source.old) self.old.most (S.calls source.new)) }
-        ensures gives { Gives (reading (S.remaining source.old) self.old)
+        ensures gives { GivesItem (reading (S.remaining source.old) self.old)
             (reading (S.remaining source.new) self.new)
             (stepped (line_back self.new.said self.new.lines.line.items) result) }
         ensures spelt { IfOk result
@@ -176,22 +176,22 @@ impl ItemReader {
 
     /// Reads and judges the next line; false where none comes any more.
     pub fn step<S: Source>(&mut self, source: &mut S) -> Result<bool, ItemFault>
-        requires failed_fits { is_open self.old.stage ≡ true
+        requires failed_fits { is_going self.old.stage ≡ true
             → (S.calls source.old).failed < u64.MAX }
-        requires interrupted_fits { is_open self.old.stage ≡ true
+        requires interrupted_fits { is_going self.old.stage ≡ true
             → (S.calls source.old).interrupted ≤ self.old.most }
         ensures most { self.new.most ≡ self.old.most }
         ensures failed { OnOk result (((S.calls source.new).failed ≡ (S.calls source.old).failed)
-            × (is_open self.old.stage ≡ true → (S.calls source.new).interrupted ≤ self.old.most)) }
-        ensures answers { Answers self.old.stage (reading (S.remaining source.old) self.old)
+            × (is_going self.old.stage ≡ true → (S.calls source.new).interrupted ≤ self.old.most)) }
+        ensures answers { AnswersNext self.old.stage (reading (S.remaining source.old) self.old)
             (reading (S.remaining source.new) self.new)
             (stepped (line_back self.new.said self.new.lines.line.items) result) }
         ensures spelt { IfOk result
             (λ more. more ≡ true → IsLineSpelt self.new.said self.new.lines.line.items) }
-        ensures blamed { is_open self.old.stage ≡ true
+        ensures blamed { is_going self.old.stage ≡ true
             → IfErr result (λ fault. Blamed fault (S.calls source.old)
             self.old.most (S.calls source.new)) }
-        ensures idle { is_open self.old.stage ≡ false → source.new ≡ source.old }
+        ensures idle { is_going self.old.stage ≡ false → source.new ≡ source.old }
         ensures plain { IsPlain self.old.progress → IsPlain self.new.progress
             × IfOk result (λ more. more ≡ true → is_own self.new.said ≡ true) }
     {
@@ -205,7 +205,7 @@ impl ItemReader {
     /// The line that was read last.
     fn line(&self) -> TextLine<'_>
         requires { IsLineSpelt self.now.said self.now.lines.line.items }
-        ensures { line_said result ≡ line_back self.now.said self.now.lines.line.items }
+        ensures { item_said result ≡ line_back self.now.said self.now.lines.line.items }
     {
         line_in(&self.said, self.lines.line())
     }
@@ -225,19 +225,19 @@ impl ItemReader {
         &mut self,
         source: &mut S,
     ) -> Result<Option<TextLine<'_>>, ItemFault>
-        requires failed_fits { is_open self.old.stage ≡ true
+        requires failed_fits { is_going self.old.stage ≡ true
             → (S.calls source.old).failed < u64.MAX }
-        requires interrupted_fits { is_open self.old.stage ≡ true
+        requires interrupted_fits { is_going self.old.stage ≡ true
             → (S.calls source.old).interrupted ≤ self.old.most }
         ensures* after_borrow { sem 𝓛 (Rests the_row self.entry (λ new. (new.most ≡ self.old.most)
             × OnOk result (((S.calls source.new).failed ≡ (S.calls source.old).failed)
-            × (is_open self.old.stage ≡ true → (S.calls source.new).interrupted ≤ self.old.most))
-            × Answers self.old.stage (reading (S.remaining source.old) self.old)
+            × (is_going self.old.stage ≡ true → (S.calls source.new).interrupted ≤ self.old.most))
+            × AnswersNext self.old.stage (reading (S.remaining source.old) self.old)
             (reading (S.remaining source.new) new) (told_by result)
-            × (is_open self.old.stage ≡ true → IfErr result
+            × (is_going self.old.stage ≡ true → IfErr result
             (λ fault. Blamed fault (S.calls source.old)
             self.old.most (S.calls source.new)))
-            × (is_open self.old.stage ≡ false → source.new ≡ source.old))) }
+            × (is_going self.old.stage ≡ false → source.new ≡ source.old))) }
     {
         if !self.step(source)? {
             return Ok(None);

@@ -9,7 +9,7 @@ ghost use Rattle.pesp_cert_lines.specs.declared.versions.Versions.TheVariants.{P
 ghost use Rattle.pesp_cert_lines.specs.Counts.{beginning};
 ghost use Rattle.pesp_cert_items.specs.declared.stage.Stage.TheVariants as stages;
 ghost use Rattle.pesp_cert_items.specs.Plain.{IsPlain};
-ghost use Rattle.pesp_cert_items.specs.Readings.{is_open};
+ghost use Rattle.pesp_cert_items.specs.Readings.{is_going};
 
 use crate::fault::ItemFault;
 use crate::item::Item;
@@ -23,8 +23,8 @@ use std::alloc::Global;
 pub struct Items<S: Source> {
     source: S,
     reader: ItemReader,
-    ghost failed_fits: { is_open reader.stage ≡ true → (S.calls source).failed < MAX },
-    ghost interrupted_fits: { is_open reader.stage ≡ true
+    ghost failed_fits: { is_going reader.stage ≡ true → (S.calls source).failed < MAX },
+    ghost interrupted_fits: { is_going reader.stage ≡ true
         → (S.calls source).interrupted ≤ reader.most },
     ghost plain: { IsPlain reader.progress },
 }
@@ -33,7 +33,7 @@ impl<S: Source> Items<S> {
     ghost use Rattle.pesp_cert_items.specs.contracts.items.Items.{the_row};
     ghost use Rattle.pesp_cert_items.specs.Views.{reading};
     ghost use Rattle.pesp_cert_items.specs.Lent.{said_by};
-    ghost use Rattle.pesp_cert_items.specs.Readings.{Answers, Blamed};
+    ghost use Rattle.pesp_cert_items.specs.Readings.{AnswersNext, Blamed};
 
     /// The items of the reader's text. Nothing is read so far.
     pub fn new(alloc: Global, source: S) -> Items<S>
@@ -65,14 +65,14 @@ impl<S: Source> Items<S> {
         ensures* after_borrow { sem 𝓛 (Rests (the_row S.row S.Source) self.entry
             (λ new. (new.reader.most ≡ self.old.reader.most)
             × OnOk result (((S.calls new.source).failed ≡ (S.calls self.old.source).failed)
-            × (is_open self.old.reader.stage ≡ true
+            × (is_going self.old.reader.stage ≡ true
             → (S.calls new.source).interrupted ≤ self.old.reader.most))
-            × Answers self.old.reader.stage (reading (S.remaining self.old.source) self.old.reader)
+            × AnswersNext self.old.reader.stage (reading (S.remaining self.old.source) self.old.reader)
             (reading (S.remaining new.source) new.reader) (said_by result)
-            × (is_open self.old.reader.stage ≡ true
+            × (is_going self.old.reader.stage ≡ true
             → IfErr result (λ fault. Blamed fault (S.calls self.old.source) self.old.reader.most
             (S.calls new.source)))
-            × (is_open self.old.reader.stage ≡ false → new.source ≡ self.old.source))) }
+            × (is_going self.old.reader.stage ≡ false → new.source ≡ self.old.source))) }
     {
         if !self.reader.step(&mut self.source)? {
             return Ok(None);

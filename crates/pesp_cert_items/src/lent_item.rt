@@ -2,10 +2,10 @@
 
 ghost use Rattle.std.specs.Prelude.{◌≡◌, true, false, drop, MatchOption};
 ghost use Rattle.std.specs.Option.{option_copied};
-ghost use Rattle.pesp_text.specs.Words.{words_of, pieces_left};
+ghost use Rattle.pesp_stream.specs.Words.{words_of, pieces_left};
 ghost use Rattle.pesp_cert.specs.Texts.{is_end};
 ghost use Rattle.pesp_cert_items.specs.Plain.{in_front};
-ghost use Rattle.pesp_cert_items.specs.Lent.{listed, bare, read_back, IsSpelt, line_said, line_back, IsLineSpelt, is_own};
+ghost use Rattle.pesp_cert_items.specs.Lent.{listed, bare, read_back, IsSpelt, item_said, line_back, IsLineSpelt, is_own};
 ghost use Rattle.pesp_cert_lines.specs.declared.item.Item.TheVariants.{End};
 
 use crate::item::Item;
@@ -14,7 +14,7 @@ use crate::pairs::LinePairs;
 use crate::rows::SignedRows;
 use crate::text_line::TextLine;
 use pesp_cert_lines::Item as LineItem;
-use pesp_text::split_at_byte;
+use pesp_stream::split_at_byte;
 
 /// The same item without the elements of its list.
 fn bare_item(item: &LineItem<'_>) -> Item<'static>
@@ -49,7 +49,7 @@ fn bare_item(item: &LineItem<'_>) -> Item<'static>
 /// What a line says without the elements of its list; None of the last one.
 pub(crate) fn bare_line(item: &LineItem<'_>) -> Option<TextLine<'static>>
     ensures { MatchOption result (item.now ≡ End)
-        (λ line. (is_end item.now ≡ false) × (line_said line ≡ bare item.now)) }
+        (λ line. (is_end item.now ≡ false) × (item_said line ≡ bare item.now)) }
 {
     match item {
         LineItem::End => None,
@@ -86,7 +86,7 @@ fn item_in<'a>(said: &Item<'static>, line: &'a [u8]) -> Item<'a>
 /// A line, by the same line without the elements of its list.
 pub(crate) fn line_in<'a>(said: &TextLine<'static>, line: &'a [u8]) -> TextLine<'a>
     requires { IsLineSpelt said.now line.now }
-    ensures { line_said result ≡ line_back said.now line.now }
+    ensures { item_said result ≡ line_back said.now line.now }
 {
     match said {
         TextLine::Front => TextLine::Front,

@@ -2,11 +2,11 @@
 
 ghost use Rattle.std.specs.Prelude.{◌≡◌, true};
 ghost use Rattle.std.specs.Option.{option_copied};
-ghost use Rattle.pesp_text.specs.Words.{pieces_left};
+ghost use Rattle.pesp_stream.specs.Words.{pieces_left};
 ghost use Rattle.pesp_cert_lines.specs.Marked.{marked_of, marked_are_good};
 
 use pesp_cert_lines::first_marked;
-use pesp_nets::MarkedRow;
+use pesp_problem::MarkedRow;
 
 /// The marked rows of a walk that are left in its line. They are read from the line itself, and nothing of it is copied.
 #[derive(Clone, Copy)]

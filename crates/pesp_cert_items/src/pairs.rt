@@ -2,7 +2,7 @@
 
 ghost use Rattle.std.specs.Prelude.{◌≡◌, true};
 ghost use Rattle.std.specs.Option.{option_copied};
-ghost use Rattle.pesp_text.specs.Words.{pieces_left};
+ghost use Rattle.pesp_stream.specs.Words.{pieces_left};
 ghost use Rattle.pesp_cert_lines.specs.Pairs.{pairs_from, pairs_are_good};
 
 use pesp_cert_lines::first_pair;
@@ -17,7 +17,7 @@ pub struct LinePairs<'a> {
 }
 
 impl<'a> LinePairs<'a> {
-    ghost use Rattle.pesp_cert_items.specs.Lent.{pairs_in};
+    ghost use Rattle.pesp_cert_items.specs.Lent.{pairs_left_in};
 
     /// The pairs that these words spell.
     pub(crate) fn new(words: Option<&'a [u8]>) -> LinePairs<'a>
@@ -30,7 +30,7 @@ impl<'a> LinePairs<'a> {
 
     /// The same pairs again.
     pub fn again(&self) -> LinePairs<'a>
-        ensures { pairs_in result ≡ pairs_in self.now }
+        ensures { pairs_left_in result ≡ pairs_left_in self.now }
     {
         LinePairs {
             words: self.words,
@@ -41,13 +41,13 @@ impl<'a> LinePairs<'a> {
 
 impl<'a> Iterator for LinePairs<'a> {
     ghost use Rattle.std.specs.Iterator.{item_count, YieldsFirst};
-    ghost use Rattle.pesp_cert_items.specs.Lent.{pairs_in};
+    ghost use Rattle.pesp_cert_items.specs.Lent.{pairs_left_in};
 
     type Item = Pair;
 
-    ghost next_gives = { YieldsFirst pairs_in };
+    ghost next_gives = { YieldsFirst pairs_left_in };
 
-    ghost remaining = { item_count pairs_in };
+    ghost remaining = { item_count pairs_left_in };
 
     #[inline]
     #[tactic(auto, using(crate::proofs::Lists::no_pairs))]

@@ -2,7 +2,7 @@
 
 ghost use Rattle.std.specs.Prelude.{◌≡◌, true};
 ghost use Rattle.std.specs.Option.{option_copied};
-ghost use Rattle.pesp_text.specs.Words.{pieces_left};
+ghost use Rattle.pesp_stream.specs.Words.{pieces_left};
 ghost use Rattle.pesp_cert_lines.specs.Rows.{rows_of, rows_are_good};
 
 use pesp_cert_lines::first_row;

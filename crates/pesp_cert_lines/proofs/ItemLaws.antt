@@ -14,16 +14,16 @@ use Rattle.pesp_truth.specs.declared.answer.Answer.{Answer}
 use Rattle.pesp_truth.specs.declared.answer.Answer.TheVariants as answers
 use Rattle.pesp_cert_lines.specs.declared.kind.Kind.{Kind}
 use Rattle.pesp_cert_lines.specs.declared.kind.Kind.TheVariants as kinds
-use Rattle.pesp_text.specs.Number.{NATURALS, natural_of, whole_of, SpellsNatural}
+use Rattle.pesp_stream.specs.Number.{NATURALS, natural_of, whole_of, SpellsNatural}
 use Rattle.pesp_cert_lines.specs.Rows.{is_name, row_words, rows_of}
 use Rattle.pesp_cert_lines.specs.Marked.{marked_of, marked_words}
 use Rattle.pesp_cert_lines.specs.Pairs.{pairs_from, pair_words}
-use Rattle.pesp_nets.specs.declared.marked.MarkedRow.{MarkedRow}
+use Rattle.pesp_problem.specs.declared.marked.MarkedRow.{MarkedRow}
 use Rattle.pesp_cert_lines.specs.declared.item.Item.{Item}
 use Rattle.pesp_cert_lines.specs.declared.item.Item.TheVariants.{Front, Scale, Walk, Lemma, Least, Version, Period, Answer as Says, Time, Cycle, Slack, Offset, Bound, Nothing, Gap, Propagated, End}
-use Rattle.pesp_cert_lines.specs.Items.{is_item_within, item_of, is_form, item_words, one, two, spelt_cost, cost_word, answer_of, answer_words, optimal_of, open_of, is_answer_form, IsProper, HasProperCosts}
+use Rattle.pesp_cert_lines.specs.Items.{is_item_within, item_of, is_form, item_words, one, two, spelt_cost, cost_word, answer_from_words, answer_words, optimal_of, open_of, is_answer_form, IsProper, HasProperCosts}
 use Rattle.pesp_cert_lines.specs.Counts.{kind_in}
-use Rattle.pesp_text.proofs.Digits.{natural_spells, natural_read, whole_spells, whole_read, decimal_digits}
+use Rattle.pesp_stream.proofs.Digits.{natural_spells, natural_read, whole_spells, whole_read, decimal_digits}
 use Rattle.pesp_cert_lines.proofs.Tests.{cases}
 use Rattle.pesp_cert_lines.proofs.WordLaws.{kind_word, is_worded, joined, option_map_some, both_some, pairs_spell, pairs_read, rows_spell, rows_read}
 use Rattle.pesp_cert_lines.proofs.MarkedLaws.{marked_spell, marked_words_read}
@@ -79,9 +79,9 @@ led : (w name : List ℕ) (ws : List (List ℕ)) (a : Answer) → w ≡ name
     → (name ∷ ws ≡ answer_words a) × HasProperCosts a → (w ∷ ws ≡ answer_words a) × HasProperCosts a
 led w name ws a e h = rw e h
 
-pub answer_spells : (ws : List (List ℕ)) (a : Answer) → is_answer_form ws ≡ true → answer_of ws ≡ Some a
+pub answer_spells : (ws : List (List ℕ)) (a : Answer) → is_answer_form ws ≡ true → answer_from_words ws ≡ Some a
     → (ws ≡ answer_words a) × HasProperCosts a
-unfolding is_answer_form answer_of
+unfolding is_answer_form answer_from_words
 answer_spells [] a f h = absurd cc
 answer_spells (w ∷ ws) a f h =
     elim (cases (bytes_eq w (codes "optimal"))) [
@@ -112,8 +112,8 @@ unfolding spelt_cost
 cost_read None h = refl
 cost_read (Some c) h = rw (none_word c h, natural_read (decimal c) c (h, refl)) refl
 
-pub answer_read : (a : Answer) → HasProperCosts a → (is_answer_form (answer_words a) ≡ true) × (answer_of (answer_words a) ≡ Some a)
-unfolding is_answer_form answer_of
+pub answer_read : (a : Answer) → HasProperCosts a → (is_answer_form (answer_words a) ≡ true) × (answer_from_words (answer_words a) ≡ Some a)
+unfolding is_answer_form answer_from_words
 answer_read (answers.Optimal c) h = (refl, rw (natural_read (decimal c) c (h, refl)) refl)
 answer_read answers.Infeasible h = (refl, refl)
 answer_read (answers.Bounded least cost) h = (refl, rw (natural_read (decimal least) least (h.0, refl), cost_read cost h.1) refl)
@@ -213,7 +213,7 @@ item_spells kinds.Period ws item f h =
       proper = tt;
     })
 item_spells kinds.Answer ws item f h =
-    let m = option_map_some Says (answer_of ws) item h in
+    let m = option_map_some Says (answer_from_words ws) item h in
     let a = answer_spells ws m.0 f m.1 in
     at_item kinds.Answer ws (Says m.0) item m.2
     (record { words = ap (λ (vs : List (List ℕ)). codes "answer" ∷ vs) a.0; kind = refl; proper = a.1 })

@@ -21,18 +21,18 @@ use Rattle.pesp_cert_lines.specs.declared.fault.LineFault.TheVariants as faults
 use Rattle.pesp_cert_lines.specs.declared.progress.Progress.{Progress}
 use Rattle.pesp_cert_lines.specs.declared.progress.Place.{Place}
 use Rattle.pesp_cert_lines.specs.declared.progress.Place.TheVariants as places
-use Rattle.pesp_text.specs.Number.{NATURALS, is_natural, natural_of}
-use Rattle.pesp_text.specs.Words.{is_byte, words_of, spaced, line_of_words, has_empty}
+use Rattle.pesp_stream.specs.Number.{NATURALS, is_natural, natural_of}
+use Rattle.pesp_stream.specs.Words.{is_byte, words_of, spaced, line_of_words, has_empty}
 use Rattle.pesp_cert_lines.specs.Rows.{is_name, rows_are_named, row_word, row_words}
 use Rattle.pesp_cert_lines.specs.Marked.{are_named, star, marked_word, marked_words}
 use Rattle.pesp_cert_lines.specs.Pairs.{pair_words, is_pair_within, all_within}
-use Rattle.pesp_nets.specs.declared.marked.MarkedRow.{MarkedRow}
+use Rattle.pesp_problem.specs.declared.marked.MarkedRow.{MarkedRow}
 use Rattle.pesp_cert_lines.specs.declared.item.Item.{Item}
 use Rattle.pesp_cert_lines.specs.declared.item.Item.TheVariants.{Front, Scale, Walk, Lemma, Least, Version, Period, Answer as Says, Time, Cycle, Slack, Offset, Bound, Nothing, Gap, Propagated, End}
 use Rattle.pesp_cert_lines.specs.Items.{is_item_within, checked, item_of, is_form, item_words, cost_word, kind_of, IsProper}
-use Rattle.pesp_cert_lines.specs.Counts.{allows, may_follow, may_end, is_behind_front, after, keeps_counts, kind_in, CanStand}
+use Rattle.pesp_cert_lines.specs.Counts.{allows, may_follow, may_end, is_behind_front, progress_after, keeps_counts, kind_in, CanStand}
 use Rattle.pesp_cert_lines.specs.Lines.{line_at, line_judged, begins_front, is_cut, as_line, words_judged, kind_judged, counted, ReadsLine}
-use Rattle.pesp_text.proofs.Digits.{decimal_digits, decimal_some}
+use Rattle.pesp_stream.proofs.Digits.{decimal_digits, decimal_some}
 use Rattle.pesp_cert_lines.proofs.Tests.{cases, and_left, and_right, and_both}
 use Rattle.pesp_cert_lines.proofs.WordLaws.{kind_word, is_worded, kind_spells, kind_read, named_below, cycle_below, mult_below}
 use Rattle.pesp_cert_lines.proofs.ItemLaws.{has_word, item_spells, item_read}
@@ -221,12 +221,12 @@ kind_ok p ws (Some k) item h = go (allows p k && is_form k ws) refl h
     go false e h = absurd cc
 
 counted_ok : (p : Progress) (r : Result Item LineFault) (item : Item) → counted p r ≡ Ok item
-    → (r ≡ Ok item) × (keeps_counts (after p item) ≡ true)
+    → (r ≡ Ok item) × (keeps_counts (progress_after p item) ≡ true)
 counted_ok p (Err f) item h = absurd cc
-counted_ok p (Ok i) item h = go (keeps_counts (after p i)) refl h
+counted_ok p (Ok i) item h = go (keeps_counts (progress_after p i)) refl h
   where
-    go : (b : Bool) → keeps_counts (after p i) ≡ b → cond b (done i) (Err faults.Limit) ≡ Ok item
-        → (done i ≡ Ok item) × (keeps_counts (after p item) ≡ true)
+    go : (b : Bool) → keeps_counts (progress_after p i) ≡ b → cond b (done i) (Err faults.Limit) ≡ Ok item
+        → (done i ≡ Ok item) × (keeps_counts (progress_after p item) ≡ true)
     go true e h = let same : i ≡ item = cc in (h, rw (← same) e)
     go false e h = absurd cc
 
@@ -251,7 +251,7 @@ not_cut true r item h = absurd cc
 not_cut false r item h = h
 
 front_found : (p : Progress) (line : List ℕ) (item : Item) → Front ≡ item → begins_front p line ≡ true
-    → keeps_counts (after p item) ≡ true → (line ≡ line_of_words (item_words item)) × CanStand p item
+    → keeps_counts (progress_after p item) ≡ true → (line ≡ line_of_words (item_words item)) × CanStand p item
 front_found p line item e is counts =
     let test : List ℕ → Bool = λ l. bytes_eq l (codes "pesp-certificate 3") in
     rw (← e) (

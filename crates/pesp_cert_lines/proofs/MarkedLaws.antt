@@ -8,9 +8,9 @@ use Rattle.std.proofs.lemmas.Bool.{eqb-true}
 use Rattle.std.proofs.lemmas.Bool.Decides.{nat_tests}
 use Rattle.std.proofs.lemmas.List.{take-append-drop, take_at, drop_more, drop_all}
 use Rattle.pesp_problem.specs.declared.row.SignedRow.{SignedRow}
-use Rattle.pesp_text.specs.Number.{NATURALS}
-use Rattle.pesp_text.proofs.Digits.{decimal_digits, decimal_some, digit_range}
-use Rattle.pesp_nets.specs.declared.marked.MarkedRow.{MarkedRow}
+use Rattle.pesp_stream.specs.Number.{NATURALS}
+use Rattle.pesp_stream.proofs.Digits.{decimal_digits, decimal_some, digit_range}
+use Rattle.pesp_problem.specs.declared.marked.MarkedRow.{MarkedRow}
 use Rattle.pesp_cert_lines.specs.Rows.{is_name, row_word, spelt_row, row_made}
 use Rattle.pesp_cert_lines.specs.Marked.{marked_word, marked_words, are_named, is_starred, but_last, with_mark, marked_at, marked_made, marked_of}
 use Rattle.pesp_cert_lines.proofs.Tests.{cases, and_left, and_right}

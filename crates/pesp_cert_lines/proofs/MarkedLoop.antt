@@ -1,6 +1,6 @@
 -- The loop over the marked rows of a walk's line.
 use Rattle.std.proofs.Common.{◌≡◌, ℕ, suc, ◌+◌, Bool, true, false, ◌&&◌, List, [], ◌∷◌, length, Option, Some, None, Err, refl, sym, ◌∙◌, arith}
-use Rattle.pesp_nets.specs.declared.marked.MarkedRow.{MarkedRow}
+use Rattle.pesp_problem.specs.declared.marked.MarkedRow.{MarkedRow}
 use Rattle.pesp_cert_lines.specs.declared.fault.LineFault.TheVariants.{Number}
 use Rattle.pesp_cert_lines.specs.Rows.{is_name, both}
 use Rattle.pesp_cert_lines.specs.Marked.{marked_at, marked_made, marked_of, counted_marked, count_of_marked, are_named, marked_are_good, BeginsMarked}

@@ -6,10 +6,10 @@ use Rattle.std.specs.Int.{w64}
 use Rattle.std.proofs.lemmas.Option.{option_and_then_some, cond_some}
 use Rattle.std.proofs.lemmas.Bool.Decides.{nat_tests}
 use Rattle.std.proofs.lemmas.Int.{ints}
-use Rattle.pesp_text.proofs.Digits.{whole_spells}
+use Rattle.pesp_stream.proofs.Digits.{whole_spells}
 use Rattle.pesp_problem.specs.declared.pair.Pair.{Pair}
 use Rattle.pesp_cert_lines.specs.declared.fault.LineFault.TheVariants.{Number}
-use Rattle.pesp_text.specs.Number.{NATURALS, natural_of, whole_of}
+use Rattle.pesp_stream.specs.Number.{NATURALS, natural_of, whole_of}
 use Rattle.pesp_cert_lines.specs.Pairs.{pair_at, pairs_from, is_pair_within, counted_pairs, count_of_pairs, all_within, pairs_left, pairs_are_good, BeginsPairs}
 use Rattle.pesp_cert_lines.proofs.Tests.{and_left, and_right}
 

@@ -12,12 +12,12 @@ use Rattle.pesp_problem.specs.declared.row.SignedRow.{SignedRow}
 use Rattle.pesp_problem.specs.declared.pair.Pair.{Pair}
 use Rattle.pesp_cert_lines.specs.declared.kind.Kind.{Kind}
 use Rattle.pesp_cert_lines.specs.declared.kind.Kind.TheVariants as kinds
-use Rattle.pesp_text.specs.Number.{NATURALS, natural_of, whole_of}
+use Rattle.pesp_stream.specs.Number.{NATURALS, natural_of, whole_of}
 use Rattle.pesp_cert_lines.specs.Pairs.{pair_at, pairs_from, pair_words, is_pair_within, all_within, follows, rise_from}
 use Rattle.pesp_cert_lines.specs.Rows.{spelt_row, row_made, row_word, row_words, rows_of, rows_are_named, signed, both, is_name}
 use Rattle.pesp_cert_lines.specs.Items.{kind_of}
 use Rattle.pesp_cert_lines.proofs.Tests.{and_left, and_right, and_both, cases}
-use Rattle.pesp_text.proofs.Digits.{natural_spells, natural_read, whole_spells, whole_read}
+use Rattle.pesp_stream.proofs.Digits.{natural_spells, natural_read, whole_spells, whole_read}
 use Rattle.pesp_cert_lines.proofs.PairLoop.{pair_parts}
 
 pub option_map_some : {A B : Type 0} (f : A → B) (o : Option A) (y : B) → option_map f o ≡ Some y → (x : A) × (o ≡ Some x) × (f x ≡ y)

@@ -159,24 +159,24 @@ abbrev pub after_tree : Progress → ℕ → ℕ → Progress
 after_tree p parts pairs = record p { place = places.Tree; needs = (p.needs + parts) - 1; lines = p.lines + 1; pairs = p.pairs + pairs }
 
 -- what shows a lemma is counted from its first line on, and the certificate's own lines from theirs
-abbrev pub after : Progress → Item → Progress
-after p Front = record p { place = places.Marked }
-after p (Scale n) = record p { place = places.Walks }
-after p (Walk walk) = record p { place = places.Walks; walks = p.walks + 1; marked = p.marked + length walk }
-after p (Lemma ps) = record (beginning p.versions) { place = places.Lemma; lemmas = p.lemmas + 1; shows = true }
-after p (Least n) = record p { place = places.Least }
-after p (Version n) = record (beginning p.versions) { place = places.Header; version = n }
-after p (Period n) = record p { place = places.Period }
-after p (Says a) = record p { place = places.Times }
-after p (Time label time) = record p { times = p.times + 1 }
-after p (Cycle rs) = record p { place = places.Cycles; cycles = p.cycles + 1; rows = p.rows + length rs }
-after p (Slack row k) = after_tree p 2 0
-after p (Offset cycle k) = after_tree p 2 0
-after p (Bound ps) = after_tree p 0 (length ps)
-after p (Nothing ps) = after_tree p 0 (length ps)
-after p (Gap cycle) = after_tree p 0 0
-after p Propagated = after_tree p 0 0
-after p End = p
+abbrev pub progress_after : Progress → Item → Progress
+progress_after p Front = record p { place = places.Marked }
+progress_after p (Scale n) = record p { place = places.Walks }
+progress_after p (Walk walk) = record p { place = places.Walks; walks = p.walks + 1; marked = p.marked + length walk }
+progress_after p (Lemma ps) = record (beginning p.versions) { place = places.Lemma; lemmas = p.lemmas + 1; shows = true }
+progress_after p (Least n) = record p { place = places.Least }
+progress_after p (Version n) = record (beginning p.versions) { place = places.Header; version = n }
+progress_after p (Period n) = record p { place = places.Period }
+progress_after p (Says a) = record p { place = places.Times }
+progress_after p (Time label time) = record p { times = p.times + 1 }
+progress_after p (Cycle rs) = record p { place = places.Cycles; cycles = p.cycles + 1; rows = p.rows + length rs }
+progress_after p (Slack row k) = after_tree p 2 0
+progress_after p (Offset cycle k) = after_tree p 2 0
+progress_after p (Bound ps) = after_tree p 0 (length ps)
+progress_after p (Nothing ps) = after_tree p 0 (length ps)
+progress_after p (Gap cycle) = after_tree p 0 0
+progress_after p Propagated = after_tree p 0 0
+progress_after p End = p
 
 -- the limits of the counts
 abbrev pub keeps_counts : Progress → Bool
@@ -186,10 +186,10 @@ keeps_counts p = nat_le p.times MOST_EVENTS && nat_le p.cycles MOST_CYCLES && na
 
 -- what came with this item, where the counts are within their limits
 abbrev pub counted_after : Progress → Item → Option Progress
-counted_after p item = if keeps_counts (after p item) then Some (after p item) else None
+counted_after p item = if keeps_counts (progress_after p item) then Some (progress_after p item) else None
 
 -- the counts are within their limits, and no more trees are asked for than the lines so far allow
-pub record IsKept (p : Progress) : Type 0 where
+pub record ProgressIsKept (p : Progress) : Type 0 where
   pub times : p.times ≤ MOST_EVENTS
   pub cycles : p.cycles ≤ MOST_CYCLES
   pub rows : p.rows ≤ MOST_SIGNED_ROWS
@@ -227,4 +227,4 @@ pub record CanStand (p : Progress) (item : Item) : Type 0 where
   pub allowed : allows p (kind_in item) ≡ true
   pub proper : IsProper item
   pub within : is_item_within item ≡ true
-  pub counts : keeps_counts (after p item) ≡ true
+  pub counts : keeps_counts (progress_after p item) ≡ true

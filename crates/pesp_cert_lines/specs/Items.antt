@@ -6,8 +6,8 @@ use Rattle.std.specs.Fmt.{signed_decimal}
 use Rattle.pesp_problem.specs.declared.limits.TheConstants.{MOST_LABEL, MOST_OFFSET, MOST_PERIOD, MOST_SCALE, MOST_SLACK, MOST_TIME}
 use Rattle.pesp_truth.specs.declared.answer.Answer.{Answer}
 use Rattle.pesp_truth.specs.declared.answer.Answer.TheVariants as answers
-use Rattle.pesp_text.specs.Number.{NATURALS, natural_of, whole_of}
-use Rattle.pesp_text.specs.Words.{line_of_words}
+use Rattle.pesp_stream.specs.Number.{NATURALS, natural_of, whole_of}
+use Rattle.pesp_stream.specs.Words.{line_of_words}
 use Rattle.pesp_cert_lines.specs.declared.kind.Kind.{Kind}
 use Rattle.pesp_cert_lines.specs.declared.kind.Kind.TheVariants as kinds
 use Rattle.pesp_cert_lines.specs.declared.item.Item.{Item}
@@ -158,9 +158,9 @@ open_of (l ∷ []) = None
 open_of (l ∷ c ∷ cs) = both answers.Bounded (natural_of l) (spelt_cost c)
 
 -- the answer that the words behind `answer` spell, where they have its form
-unfoldable pub answer_of : List (List ℕ) → Option Answer
-answer_of [] = None
-answer_of (w ∷ ws) = if bytes_eq w (codes "optimal") then optimal_of ws else
+unfoldable pub answer_from_words : List (List ℕ) → Option Answer
+answer_from_words [] = None
+answer_from_words (w ∷ ws) = if bytes_eq w (codes "optimal") then optimal_of ws else
     if bytes_eq w (codes "infeasible") then Some answers.Infeasible else open_of ws
 
 -- what one word or two say
@@ -183,7 +183,7 @@ item_of kinds.Lemma ws = option_map Lemma (pairs_from 0 ws)
 item_of kinds.Least ws = option_map Least (one whole_of ws)
 item_of kinds.Version ws = option_map Version (one natural_of ws)
 item_of kinds.Period ws = option_map Period (one natural_of ws)
-item_of kinds.Answer ws = option_map Says (answer_of ws)
+item_of kinds.Answer ws = option_map Says (answer_from_words ws)
 item_of kinds.Time ws = two Time whole_of natural_of ws
 item_of kinds.Cycle ws = option_map Cycle (rows_of ws)
 item_of kinds.Slack ws = two Slack natural_of natural_of ws

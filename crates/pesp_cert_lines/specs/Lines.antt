@@ -1,7 +1,7 @@
 -- One line at its place: what it says, or its first fault.
 use Rattle.std.specs.Prelude.{◌≡◌, ℕ, Bool, true, false, ◌&&◌, not, ◌==◌, if◌then◌else◌, Option, Some, None, Result, Ok, Err, List, [], ◌∷◌, codes}
 use Rattle.std.specs.Str.{bytes_eq}
-use Rattle.pesp_text.specs.Words.{words_of, line_of_words, has_empty}
+use Rattle.pesp_stream.specs.Words.{words_of, line_of_words, has_empty}
 use Rattle.pesp_cert_lines.specs.declared.kind.Kind.{Kind}
 use Rattle.pesp_cert_lines.specs.declared.kind.Kind.TheVariants as kinds
 use Rattle.pesp_cert_lines.specs.declared.fault.LineFault.{LineFault}
@@ -10,7 +10,7 @@ use Rattle.pesp_cert_lines.specs.declared.item.Item.{Item}
 use Rattle.pesp_cert_lines.specs.declared.item.Item.TheVariants.{Front}
 use Rattle.pesp_cert_lines.specs.declared.progress.Progress.{Progress}
 use Rattle.pesp_cert_lines.specs.Items.{kind_of, is_form, item_of, item_words, checked}
-use Rattle.pesp_cert_lines.specs.Counts.{is_in_front, is_behind_front, allows, after, keeps_counts, CanStand}
+use Rattle.pesp_cert_lines.specs.Counts.{is_in_front, is_behind_front, allows, progress_after, keeps_counts, CanStand}
 
 -- the longest line, in bytes before its LF
 abbrev pub LONGEST : ℕ
@@ -35,7 +35,7 @@ words_judged p (w ∷ ws) = if has_empty (w ∷ ws) then Err faults.Line else ki
 -- then of the counts
 abbrev pub counted : Progress → Result Item LineFault → Result Item LineFault
 counted p (Err f) = Err f
-counted p (Ok item) = if keeps_counts (after p item) then Ok item else Err faults.Limit
+counted p (Ok item) = if keeps_counts (progress_after p item) then Ok item else Err faults.Limit
 
 -- the first line of version 3, where it may stand
 abbrev pub begins_front : Progress → List ℕ → Bool

@@ -1,7 +1,7 @@
 -- The marked rows of a walk's line: how they are spelt, and how they are read.
 use Rattle.std.specs.Prelude.{◌≡◌, ℕ, ◌+◌, ◌-◌, ◌≤◌, Bool, true, false, ◌&&◌, ◌==◌, if◌then◌else◌, Option, Some, None, MatchOption, Result, Ok, Err, List, [], ◌∷◌, ◌++◌, length, take, slice_index}
 use Rattle.std.specs.List.{list_all}
-use Rattle.pesp_nets.specs.declared.marked.MarkedRow.{MarkedRow}
+use Rattle.pesp_problem.specs.declared.marked.MarkedRow.{MarkedRow}
 use Rattle.pesp_cert_lines.specs.declared.rows.TheConstants.{MOST_WORDS}
 use Rattle.pesp_cert_lines.specs.declared.fault.LineFault.{LineFault}
 use Rattle.pesp_cert_lines.specs.declared.fault.LineFault.TheVariants.{Number, Limit}

@@ -5,7 +5,7 @@ use Rattle.std.specs.Option.{option_and_then, option_map}
 use Rattle.std.specs.Fmt.{signed_decimal}
 use Rattle.pesp_problem.specs.declared.limits.TheConstants.{MOST_CYCLES, MOST_MULTIPLIER}
 use Rattle.pesp_problem.specs.declared.pair.Pair.{Pair}
-use Rattle.pesp_text.specs.Number.{natural_of, whole_of}
+use Rattle.pesp_stream.specs.Number.{natural_of, whole_of}
 use Rattle.pesp_cert_lines.specs.declared.rows.TheConstants.{MOST_WORDS}
 use Rattle.pesp_cert_lines.specs.declared.fault.LineFault.{LineFault}
 use Rattle.pesp_cert_lines.specs.declared.fault.LineFault.TheVariants.{Number, Limit}

@@ -1,7 +1,7 @@
 //! The numbers of one line, where its words have the form of its kind.
 
 ghost use Rattle.std.specs.Prelude.{◌≡◌, ◌≤◌, length};
-ghost use Rattle.pesp_cert_lines.specs.Items.{item_of, checked, spelt_cost, answer_of};
+ghost use Rattle.pesp_cert_lines.specs.Items.{item_of, checked, spelt_cost, answer_from_words};
 
 use crate::fault::LineFault;
 use crate::item::Item;
@@ -10,7 +10,7 @@ use crate::marked::judge_marked;
 use crate::pairs::judge_pairs;
 use crate::rows::{MOST_WORDS, is_name, judge_rows};
 use pesp_problem::{MOST_LABEL, MOST_OFFSET, MOST_PERIOD, MOST_SCALE, MOST_SLACK, MOST_TIME};
-use pesp_text::{Words, is_word, natural, whole};
+use pesp_stream::{Words, is_word, natural, whole};
 use pesp_truth::Answer;
 
 #[tactic(auto, unfolding(crate::specs::Items::item_of))]
@@ -226,9 +226,9 @@ fn spelt_cost(word: &[u8]) -> Option<Option<u64>>
     Some(Some(cost))
 }
 
-#[tactic(auto, unfolding(crate::specs::Items::answer_of))]
+#[tactic(auto, unfolding(crate::specs::Items::answer_from_words))]
 fn answer_of(mut words: Words<'_>) -> Option<Answer>
-    ensures { result ≡ answer_of words.entry }
+    ensures { result ≡ answer_from_words words.entry }
 {
     let first = words.next()?;
     if is_word(first, "optimal") {

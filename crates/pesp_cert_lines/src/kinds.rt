@@ -4,7 +4,7 @@ ghost use Rattle.std.specs.Prelude.{◌≡◌};
 ghost use Rattle.pesp_cert_lines.specs.Items.{kind_of};
 
 use crate::kind::Kind;
-use pesp_text::is_word;
+use pesp_stream::is_word;
 
 /// The kind of line that begins with this word. Most lines are of the tree, so their words are tried first.
 #[tactic(auto, unfolding(crate::specs::Items::kind_of))]

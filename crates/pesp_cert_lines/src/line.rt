@@ -1,9 +1,9 @@
 //! One line at its place.
 
 ghost use Rattle.std.specs.Prelude.{◌≡◌, ◌≤◌, Result, IfOk, OnErr, length};
-ghost use Rattle.pesp_text.specs.Words.{words_of};
+ghost use Rattle.pesp_stream.specs.Words.{words_of};
 ghost use Rattle.pesp_cert_lines.specs.Items.{is_form, is_answer_form};
-ghost use Rattle.pesp_cert_lines.specs.Counts.{after, IsKept};
+ghost use Rattle.pesp_cert_lines.specs.Counts.{progress_after, ProgressIsKept};
 ghost use Rattle.pesp_cert_lines.specs.Lines.{begins_front, is_cut, line_at, line_judged, as_line, words_judged, LONGEST, ReadsLine};
 
 use crate::fault::LineFault;
@@ -12,7 +12,7 @@ use crate::judge::judge_numbers;
 use crate::kind::Kind;
 use crate::kinds::kind_of;
 use crate::progress::{Progress, allows, counted, is_behind_front, is_in_front};
-use pesp_text::{Words, count_words, is_word};
+use pesp_stream::{Words, count_words, is_word};
 
 /// Whether so many words may stand behind `answer`, by the first of them.
 #[tactic(auto, unfolding(crate::specs::Items::is_answer_form))]
@@ -114,10 +114,10 @@ fn judge_whole<'a>(progress: &Progress, line: &'a [u8]) -> Result<Item<'a>, Line
 #[tactic(auto, unfolding(crate::specs::Lines::line_at))]
 fn judge_line<'a>(progress: &mut Progress, line: &'a [u8]) -> Result<Item<'a>, LineFault>
     requires short { length line.now ≤ LONGEST }
-    requires kept { IsKept progress.old }
+    requires kept { ProgressIsKept progress.old }
     ensures exact { result ≡ line_at progress.old line.now }
-    ensures goes { IfOk result (λ item. progress.new ≡ after progress.old item) }
-    ensures kept { IfOk result (λ item. IsKept progress.new) }
+    ensures goes { IfOk result (λ item. progress.new ≡ progress_after progress.old item) }
+    ensures kept { IfOk result (λ item. ProgressIsKept progress.new) }
     ensures stays { OnErr result (progress.new ≡ progress.old) }
 {
     if is_cut(progress, line) {
@@ -137,13 +137,13 @@ fn judge_line<'a>(progress: &mut Progress, line: &'a [u8]) -> Result<Item<'a>, L
 /// the line itself. After a fault the progress is as it was.
 pub fn take_line<'a>(progress: &mut Progress, line: &'a [u8]) -> Result<Item<'a>, LineFault>
     requires short { length line.now ≤ LONGEST }
-    requires kept { IsKept progress.old }
+    requires kept { ProgressIsKept progress.old }
     // An item is read exactly where the line is its spelling and it may stand here.
     ensures spelt { ReadsLine progress.old line.now result }
     // Which fault it is.
     ensures exact { result ≡ line_at progress.old line.now }
-    ensures goes { IfOk result (λ item. progress.new ≡ after progress.old item) }
-    ensures kept { IfOk result (λ item. IsKept progress.new) }
+    ensures goes { IfOk result (λ item. progress.new ≡ progress_after progress.old item) }
+    ensures kept { IfOk result (λ item. ProgressIsKept progress.new) }
     ensures stays { OnErr result (progress.new ≡ progress.old) }
 {
     judge_line(progress, line)

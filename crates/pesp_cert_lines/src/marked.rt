@@ -2,15 +2,14 @@
 
 ghost use Rattle.std.specs.Prelude.{◌≡◌, ◌≤◌, IfOk, Some, true, length};
 ghost use Rattle.std.specs.Option.{option_copied};
-ghost use Rattle.pesp_text.specs.Words.{words_of, pieces_left};
+ghost use Rattle.pesp_stream.specs.Words.{words_of, pieces_left};
 ghost use Rattle.pesp_cert_lines.specs.Rows.{spelt_row};
 ghost use Rattle.pesp_cert_lines.specs.Marked.{is_starred, but_last, with_mark, marked_at, marked_of, marked_within, count_of_marked, marked_are_good, BeginsMarked};
 
 use crate::fault::LineFault;
 use crate::rows::{MOST_WORDS, is_name, spelt_row};
-use pesp_nets::MarkedRow;
-use pesp_problem::SignedRow;
-use pesp_text::{Words, split_at_byte};
+use pesp_problem::{MarkedRow, SignedRow};
+use pesp_stream::{Words, split_at_byte};
 use std::marker::Model;
 
 /// The marked rows of a walk that are left in a line that was judged.
@@ -22,7 +21,7 @@ pub struct MarkedRows<'a> {
 
 impl<'a> Model for MarkedRows<'a> {
     ghost use Rattle.std.specs.Prelude.{List};
-    ghost use Rattle.pesp_nets.specs.declared.marked.MarkedRow.{MarkedRow};
+    ghost use Rattle.pesp_problem.specs.declared.marked.MarkedRow.{MarkedRow};
 
     ghost Value = { List MarkedRow };
 

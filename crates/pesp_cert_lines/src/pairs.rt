@@ -2,14 +2,14 @@
 
 ghost use Rattle.std.specs.Prelude.{◌≡◌, ◌≤◌, ◌<◌, IfOk, IfSome, Some, true, length};
 ghost use Rattle.std.specs.Option.{option_copied};
-ghost use Rattle.pesp_text.specs.Number.{NATURALS};
-ghost use Rattle.pesp_text.specs.Words.{words_of, pieces_left};
+ghost use Rattle.pesp_stream.specs.Number.{NATURALS};
+ghost use Rattle.pesp_stream.specs.Words.{words_of, pieces_left};
 ghost use Rattle.pesp_cert_lines.specs.Pairs.{pair_at, pairs_from, is_pair_within, pairs_within, count_of_pairs, pairs_are_good, BeginsPairs};
 
 use crate::fault::LineFault;
 use crate::rows::MOST_WORDS;
 use pesp_problem::{MOST_CYCLES, MOST_MULTIPLIER, Pair};
-use pesp_text::{Words, natural, split_at_byte, whole};
+use pesp_stream::{Words, natural, split_at_byte, whole};
 use std::marker::Model;
 
 /// The pairs of a leaf that are left in a line that was judged.

@@ -1,7 +1,7 @@
 //! How far a text has come.
 
 ghost use Rattle.std.specs.Prelude.{◌≡◌, ◌≤◌};
-ghost use Rattle.pesp_cert_lines.specs.Counts.{after, after_tree, counted_after, keeps_counts, IsKept, beginning, may_follow, may_follow_walks, may_end, has_kind, allows, is_in_front, is_behind_front};
+ghost use Rattle.pesp_cert_lines.specs.Counts.{progress_after, after_tree, counted_after, keeps_counts, ProgressIsKept, beginning, may_follow, may_follow_walks, may_end, has_kind, allows, is_in_front, is_behind_front};
 
 use crate::item::Item;
 use crate::kind::Kind;
@@ -56,12 +56,12 @@ pub struct Progress {
 
 impl Progress {
     ghost use Rattle.std.specs.Prelude.{◌≡◌};
-    ghost use Rattle.pesp_cert_lines.specs.Counts.{IsKept, beginning};
+    ghost use Rattle.pesp_cert_lines.specs.Counts.{ProgressIsKept, beginning};
 
     /// Before the first line of a text: one tree is still to come.
     pub fn new(versions: Versions) -> Progress
         ensures exact { result ≡ beginning versions }
-        ensures kept { IsKept result }
+        ensures kept { ProgressIsKept result }
     {
         Progress {
             versions,
@@ -97,7 +97,7 @@ fn keeps_counts(progress: &Progress) -> bool
 
 /// How far the text has come with a line of the tree that asks for `parts` trees and has so many pairs.
 fn after_tree(progress: &Progress, parts: u64, pairs: u64) -> Progress
-    requires kept { IsKept progress.now }
+    requires kept { ProgressIsKept progress.now }
     requires few { (parts ≤ 2) × (pairs ≤ MOST_WORDS) }
     ensures { result ≡ after_tree progress.now parts pairs }
 {
@@ -112,8 +112,8 @@ fn after_tree(progress: &Progress, parts: u64, pairs: u64) -> Progress
 
 /// How far the text has come with this item.
 fn after(progress: &Progress, item: &Item<'_>) -> Progress
-    requires { IsKept progress.now }
-    ensures { result ≡ after progress.now item.now }
+    requires { ProgressIsKept progress.now }
+    ensures { result ≡ progress_after progress.now item.now }
 {
     match item {
         Item::Front => Progress {
@@ -172,7 +172,7 @@ fn after(progress: &Progress, item: &Item<'_>) -> Progress
 
 /// The same, if every count stays within its limit.
 pub(crate) fn counted(progress: &Progress, item: &Item<'_>) -> Option<Progress>
-    requires { IsKept progress.now }
+    requires { ProgressIsKept progress.now }
     ensures { result ≡ counted_after progress.now item.now }
 {
     let next = after(progress, item);

@@ -2,13 +2,13 @@
 
 ghost use Rattle.std.specs.Prelude.{◌≡◌, ◌≤◌, IfOk, Some, true, length, drop};
 ghost use Rattle.std.specs.Option.{option_copied};
-ghost use Rattle.pesp_text.specs.Number.{natural_of};
-ghost use Rattle.pesp_text.specs.Words.{words_of, pieces_left};
+ghost use Rattle.pesp_stream.specs.Number.{natural_of};
+ghost use Rattle.pesp_stream.specs.Words.{words_of, pieces_left};
 ghost use Rattle.pesp_cert_lines.specs.Rows.{is_name, spelt_row, signed, rows_of, rows_within, count_of_rows, rows_are_good, BeginsRows};
 
 use crate::fault::LineFault;
 use pesp_problem::{MOST_ROWS, SignedRow};
-use pesp_text::{Words, natural, split_at_byte};
+use pesp_stream::{Words, natural, split_at_byte};
 use std::marker::Model;
 
 /// The most words of a line: it has at most 100,000,000 bytes.

@@ -8,27 +8,26 @@ use Rattle.pesp_problem.specs.Timetables.{Pesp}
 use Rattle.pesp_problem.specs.Arcs.{arcs_of}
 use Rattle.pesp_problem.specs.Walks.{IsWalk}
 use Rattle.pesp_problem.specs.Nodes.{cycle_at}
-use Rattle.pesp_lemma.specs.Fronts.{Front as FrontOf}
-use Rattle.pesp_truth.specs.Certificates.{Content}
+use Rattle.pesp_truth.specs.Certificates.{Front as FrontOf, Content}
 use Rattle.pesp_cert_lines.specs.declared.item.Item.{Item}
 use Rattle.pesp_cert_lines.specs.declared.item.Item.TheVariants.{Cycle}
-use Rattle.pesp_nets.specs.declared.nets.NetCount.{NetCount}
+use Rattle.pesp_problem.specs.declared.nets.NetCount.{NetCount}
 use Rattle.pesp_judges.specs.declared.refusal.Refusal.{Refusal}
-use Rattle.pesp_nets.specs.Nets.{AreNetCounts}
-use Rattle.pesp_judges.specs.Faults.{IsWalkFault}
+use Rattle.pesp_problem.specs.Nets.{AreNetCounts}
+use Rattle.pesp_judges.specs.Faults.{IsWalkFault, own_line}
 use Rattle.pesp_check.specs.Items.{says_no_answer}
 use Rattle.pesp_check.specs.declared.stage.Stage.{Stage}
 use Rattle.pesp_check.specs.declared.stage.Stage.TheVariants as stages
-use Rattle.pesp_check.specs.Judging.{Kept, is_front, own_line, tree_from, IsShown, FrontCame, CyclesTo, JudgedAt}
+use Rattle.pesp_check.specs.Judging.{Kept, is_front, tree_from, FrontIsShown, FrontCame, CyclesTo, JudgedAt}
 use Rattle.pesp_judges.proofs.Closing.{walk_fault, walks_more}
 use Rattle.pesp_judges.proofs.Tables.{nets_more}
-use Rattle.pesp_check.proofs.Behind.{own_adds, cycle_refused}
+use Rattle.pesp_check.proofs.Refusing.{own_adds, cycle_refused}
 use Rattle.pesp_check.proofs.Fronts.{came_still, shown_of}
 use Rattle.pesp_check.proofs.Passed.{passed, all_cycles}
 use Rattle.pesp_check.proofs.Lists.{IsNext, next_of, cycle_in_tree}
 
 -- the same is shown while the answer stays
-pub shown_still : (p : Pesp) (c : Content) (old new : Kept) → new.answer ≡ old.answer → IsShown p c old → IsShown p c new
+pub shown_still : (p : Pesp) (c : Content) (old new : Kept) → new.answer ≡ old.answer → FrontIsShown p c old → FrontIsShown p c new
 shown_still p c old new e s = record { period = s.period; answer = e ∙ s.answer; shows = s.shows }
 
 -- no lemma is coming

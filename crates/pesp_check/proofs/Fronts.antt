@@ -5,11 +5,10 @@ use Rattle.std.specs.List.{list_all, sum_by, flat_map}
 use Rattle.std.proofs.lemmas.List.{take_more, take_all}
 use Rattle.pesp_problem.specs.Timetables.{Pesp}
 use Rattle.pesp_truth.specs.declared.answer.Answer.{Answer}
-use Rattle.pesp_nets.specs.declared.marked.MarkedRow.{MarkedRow}
+use Rattle.pesp_problem.specs.declared.marked.MarkedRow.{MarkedRow}
 use Rattle.pesp_truth.specs.Marks.{Marks}
-use Rattle.pesp_truth.specs.Certificates.{Content, ShowsAnswer}
-use Rattle.pesp_lemma.specs.Shown.{LemmaProof, AreShownFrom}
-use Rattle.pesp_lemma.specs.Fronts.{Front as FrontOf, lemma_lines}
+use Rattle.pesp_truth.specs.Certificates.{Content, ShowsAnswer, Front as FrontOf}
+use Rattle.pesp_truth.specs.Shown.{LemmaProof, lemma_lines, AreShownLemmas}
 use Rattle.pesp_problem.specs.Arcs.{net_of}
 use Rattle.pesp_cert_lines.specs.declared.item.Item.{Item}
 use Rattle.pesp_cert_lines.specs.declared.item.Item.TheVariants.{Front, Scale, Walk, Lemma, Least, Version, Period, Answer as Says, Time, Cycle, Slack, Offset, Bound, Nothing, Gap, Propagated, End}
@@ -18,18 +17,19 @@ use Rattle.pesp_cert_items.specs.declared.item.Item.{Item as LentItem}
 use Rattle.pesp_cert_items.specs.declared.item.Item.TheVariants as lent
 use Rattle.pesp_cert_items.specs.declared.text_line.TextLine.{TextLine}
 use Rattle.pesp_cert_items.specs.declared.text_line.TextLine.TheVariants as texts
-use Rattle.pesp_cert_items.specs.Lent.{listed, line_said, marked_in}
+use Rattle.pesp_cert_items.specs.Lent.{listed, item_said, marked_in}
 use Rattle.pesp_judges.specs.declared.refusal.Refusal.{Refusal}
-use Rattle.pesp_nets.specs.Nets.{AreNets}
+use Rattle.pesp_problem.specs.Nets.{AreNets}
 use Rattle.pesp_judges.proofs.Tables.{nets_none}
 use Rattle.pesp_check.specs.Items.{is_later, is_mark, ends_lemma, says_no_answer, begins_later}
 use Rattle.pesp_check.specs.declared.stage.Stage.{Stage}
 use Rattle.pesp_check.specs.declared.stage.Stage.TheVariants as stages
-use Rattle.pesp_check.specs.Judging.{Kept, MarksSaid, marks_said, marks_noted, own_line, cycles_from, times_from, behind, lemmas_from, walks_from, items_left, LemmasShown, LemmasTo, MarksTo, FrontCame, HeadTo, FrontTo, JudgedAt, IsFrontFault}
+use Rattle.pesp_judges.specs.Faults.{own_line}
+use Rattle.pesp_check.specs.Judging.{Kept, MarksSaid, marks_said, marks_noted, cycles_from, times_from, behind, lemmas_from, walks_from, items_left, LemmasShown, LemmasTo, MarksTo, FrontCame, HeadTo, FrontTo, JudgedAt, IsHeadFault}
 use Rattle.pesp_check.proofs.Lists.{IsNext, next_of, cycles_later, tree_later}
 use Rattle.pesp_check.proofs.Lemmas.{next_lemma, lemmas_begin}
 use Rattle.pesp_check.proofs.Passed.{passed, answer_came, all_cycles}
-use Rattle.pesp_check.proofs.Behind.{own_adds, period_refused}
+use Rattle.pesp_check.proofs.Refusing.{own_adds, head_refused}
 
 -- an item that stands behind a front says nothing of it
 pub own_noted : (f : MarksSaid) (item : LentItem) → f ≡ marks_noted f (listed item)
@@ -453,8 +453,8 @@ module _ (stage : Stage) (p : Pesp) (front : Option FrontOf) (c : Content) (rest
       no_least n (inr (inr h)) = let t = next_time c h.0 (Least n) rest refl h.1.left in let e : Least n ≡ Time t.0.0 t.0.1 = t.1.item_is in cc
 
   -- a line of the front itself
-  pub mark_taken : (line : TextLine) → is_mark line ≡ true → JudgedAt stage p front c (line_said line ∷ rest) kept
-      → JudgedAt stage p front c rest (record kept { line = kept.line + 1; draft = marks_noted kept.draft (line_said line) })
+  pub mark_taken : (line : TextLine) → is_mark line ≡ true → JudgedAt stage p front c (item_said line ∷ rest) kept
+      → JudgedAt stage p front c rest (record kept { line = kept.line + 1; draft = marks_noted kept.draft (item_said line) })
   mark_taken texts.Front e = begin_taken
   mark_taken (texts.Scale n) e = scale_taken n
   mark_taken (texts.Walk walk) e = walk_taken (marked_in walk)
@@ -548,10 +548,10 @@ front_done p front c (item ∷ rest) kept b none h =
     head_done p front c item rest kept b head.0 head.1
 
 -- what was shown of the lemmas
-pub shown_of : (p : Pesp) (front : Option FrontOf) (kept : Kept) → FrontCame p front kept → IfSome front (λ f. AreShownFrom (net_of p) [] f.lemmas)
+pub shown_of : (p : Pesp) (front : Option FrontOf) (kept : Kept) → FrontCame p front kept → IfSome front (λ f. AreShownLemmas (net_of p) [] f.lemmas)
 shown_of p None kept h = tt
 shown_of p (Some f) kept h =
-    let P : List LemmaProof → Type 0 = λ ss. AreShownFrom (net_of p) [] ss in
+    let P : List LemmaProof → Type 0 = λ ss. AreShownLemmas (net_of p) [] ss in
     subst P (take_all (length f.lemmas) f.lemmas (omega arith)) h.1.shown
 
 module _ (p : Pesp) (front : Option FrontOf) (c : Content) (rest : List Item) (kept : Kept) (b : begins_later rest ≡ true)
@@ -578,12 +578,12 @@ module _ (p : Pesp) (front : Option FrontOf) (c : Content) (rest : List Item) (k
     },
   )
 
-  pub front_refused : (refusal : Refusal) → IsFrontFault p kept.period kept.answer (map (λ t. t.0) kept.times)
+  pub front_refused : (refusal : Refusal) → IsHeadFault p kept.period kept.answer (map (λ t. t.0) kept.times)
       (map (λ t. t.1) kept.times) refusal → JudgedAt (stages.Refused refusal) p front c rest kept
   front_refused refusal f = record {
     none = none;
     answer = inl (done.answer, ap (list_all says_no_answer) done.left ∙ all_cycles c 0);
-    first = period_refused p c refusal front (shown_of p front kept done.came) (rw (done.period, done.answer, done.times) at f);
+    first = head_refused p c refusal front (shown_of p front kept done.came) (rw (done.period, done.answer, done.times) at f);
   }
 
 -- what holds where nothing is wrong

@@ -5,7 +5,7 @@ use Rattle.std.proofs.lemmas.Bool.Decides.{nat_tests}
 use Rattle.pesp_cert_lines.specs.declared.item.Item.{Item}
 use Rattle.pesp_cert_lines.specs.declared.item.Item.TheVariants.{Front, Scale, Walk, Lemma, Least, Version, Period, Answer as Says, Time, Cycle, Slack, Offset, Bound, Nothing, Gap, Propagated, End}
 use Rattle.pesp_cert_lines.specs.declared.progress.Progress.{Progress}
-use Rattle.pesp_cert_lines.specs.Counts.{CanStand, after, keeps_counts}
+use Rattle.pesp_cert_lines.specs.Counts.{CanStand, progress_after, keeps_counts}
 use Rattle.pesp_cert_lines.specs.Rows.{is_name}
 use Rattle.pesp_cert_lines.specs.Pairs.{rise_from, all_within}
 use Rattle.pesp_cert_lines.proofs.Tests.{and_right, and_both}
@@ -25,7 +25,7 @@ item_limits p (Version n) h = tt
 item_limits p (Period n) h = tt
 item_limits p (Says a) h = tt
 item_limits p (Time label time) h = tt
-item_limits p (Cycle rows) h = let few = few_rows (after p (Cycle rows)) h.counts in omega (arith, few)
+item_limits p (Cycle rows) h = let few = few_rows (progress_after p (Cycle rows)) h.counts in omega (arith, few)
 item_limits p (Slack row k) h = le_of k 9999 (and_right (is_name row) (nat_le k 9999) h.within)
 item_limits p (Offset cycle k) h = le_of (nat_abs k) 100000000000000
     (and_right (is_name cycle) (nat_le (nat_abs k) 100000000000000) h.within)

@@ -1,30 +1,27 @@
 -- A lemma of a certificate as a whole.
 use Rattle.std.proofs.Common.{◌≡◌, ◌∙◌, inr, ℕ, zero, suc, ◌+◌, ◌<◌, ◌≤◌, arith, refl, sym, ap, subst, List, [], ◌∷◌, ◌++◌, length, get_or, take, Option, Some, None, true}
-use Rattle.std.specs.Prelude.{ℤ, MatchOption, option_map}
+use Rattle.std.specs.Prelude.{ℤ, IfSome, MatchOption}
 use Rattle.std.specs.List.{sum_by}
 use Rattle.std.proofs.lemmas.List.{get_or_default, take_more}
 use Rattle.std.proofs.lemmas.List.Sums.{sum_by-cons, sum_by_more}
 use Rattle.pesp_problem.specs.declared.row.SignedRow.{SignedRow}
-use Rattle.pesp_truth.specs.Marks.{Marks}
 use Rattle.pesp_problem.specs.Nodes.{cycle_at}
 use Rattle.pesp_truth.specs.declared.tree.TreeLine.{TreeLine}
 use Rattle.pesp_truth.specs.declared.tree.TreeLine.TheVariants.{Propagated}
-use Rattle.pesp_truth.specs.Trees.{Line}
-use Rattle.pesp_truth.specs.Certificates.{line_of}
+use Rattle.pesp_truth.specs.Trees.{Line, line_of}
 use Rattle.pesp_truth.proofs.FrontLimits.{limits_of}
 use Rattle.pesp_cert.specs.Limits.{total_rows, is_shown_lemma}
 use Rattle.pesp_problem.specs.declared.pair.Pair.{Pair}
 use Rattle.pesp_problem.specs.Timetables.{Pesp}
 use Rattle.pesp_problem.specs.Arcs.{arcs_of, net_of}
 use Rattle.pesp_judges.specs.declared.refusal.Refusal.{Refusal}
-use Rattle.pesp_judges.specs.Faults.{IsCycleFault}
+use Rattle.pesp_judges.specs.Faults.{IsCycleFault, IsLemmaFault}
 use Rattle.pesp_judges.proofs.Tables.{nets_none}
-use Rattle.pesp_lemma.specs.Lemmas.{Lemma as Fact, NamesRows}
-use Rattle.pesp_lemma.specs.Shown.{LemmaProof, IsShownFrom, AreShownFrom, lemmas_of}
-use Rattle.pesp_lemma.specs.Fronts.{Front as FrontOf, lemma_lines}
-use Rattle.pesp_lemma_judges.specs.Showing.{KeptLemma, IsWithin, CyclesShown, ShownTo, IsTold, rows_kept, first_line}
-use Rattle.pesp_lemma_judges.specs.Faults.{IsLemmaFault}
-use Rattle.pesp_lemma_judges.proofs.Telling.{lemma_whole}
+use Rattle.pesp_truth.specs.Lemmas.{Lemma as Fact, NamesRows}
+use Rattle.pesp_truth.specs.Shown.{LemmaProof, lemmas_of, lemma_lines, IsShownLemma, AreShownLemmas}
+use Rattle.pesp_truth.specs.Certificates.{Front as FrontOf}
+use Rattle.pesp_judges.specs.Showing.{KeptLemma, KeepsLemmaLimits, CyclesShown, ShownTo, LemmaIsTold, rows_kept, first_line}
+use Rattle.pesp_judges.proofs.Telling.{lemma_whole}
 use Rattle.pesp_check.specs.Costs.{facts_said}
 use Rattle.pesp_check.proofs.Limits.{shown_within}
 use Rattle.pesp_check.proofs.Lemmas.{shown_more}
@@ -37,22 +34,22 @@ pub none_said : (front : Option FrontOf) → ((f : FrontOf) → front ≡ Some f
 none_said None none = refl
 none_said (Some f) none = absurd (none f refl)
 
-pub no_marks_said : (front : Option FrontOf) → ((f : FrontOf) → front ≡ Some f → ⊥)
-    → ◌≡◌ {A = Option Marks} None (option_map (λ f. f.marks) front)
-no_marks_said None none = refl
-no_marks_said (Some f) none = absurd (none f refl)
+pub none_shown : (p : Pesp) (front : Option FrontOf) → ((f : FrontOf) → front ≡ Some f → ⊥)
+    → IfSome front (λ f. AreShownLemmas (net_of p) [] f.lemmas)
+none_shown p None none = tt
+none_shown p (Some f) none = absurd (none f refl)
 
 -- all its lines came
-pub whole_lemma : (p : Pesp) (earlier : List Fact) (s : LemmaProof) (at : ℕ) (kept : KeptLemma) (fact : Fact) → IsWithin s
+pub whole_lemma : (p : Pesp) (earlier : List Fact) (s : LemmaProof) (at : ℕ) (kept : KeptLemma) (fact : Fact) → KeepsLemmaLimits s
     → ShownTo p earlier s at kept (length s.tree) → fact ≡ record { weights = kept.weights; least = kept.least }
-    → (fact ≡ s.fact) × IsShownFrom (net_of p) earlier s
+    → (fact ≡ s.fact) × IsShownLemma (net_of p) earlier s
 whole_lemma p earlier s at kept fact limits h is =
     let whole = lemma_whole p earlier s at kept (length s.tree) limits (omega arith) h in
     (is ∙ same_fact kept.weights kept.least s.fact whole.1 whole.2, whole.0)
 
 -- a line more came
 pub told_shown : (p : Pesp) (earlier : List Fact) (s : LemmaProof) (at : ℕ) (kept : KeptLemma) (k : ℕ) (found : Option Refusal)
-    → IsTold p earlier s at kept k found → MatchOption found (ShownTo p earlier s at kept k) (λ r. IsLemmaFault (net_of p) earlier s at r)
+    → LemmaIsTold p earlier s at kept k found → MatchOption found (ShownTo p earlier s at kept k) (λ r. IsLemmaFault (net_of p) earlier s at r)
 told_shown p earlier s at kept k None h = inr h
 told_shown p earlier s at kept k (Some r) h = h
 
@@ -70,12 +67,12 @@ one_short (rows ∷ cycles) (suc j) d l =
 module _ (p : Pesp) (kept kept' : KeptLemma) (k there : ℕ) (found : Option Refusal) where
   -- what a judge tells of a cycle
   abbrev pub CycleTold : List SignedRow → Type 0
-  CycleTold rows = (s : LemmaProof) (at i : ℕ) → IsWithin s → CyclesShown p s at kept i → i < length s.cycles → rows ≡ cycle_at s.cycles i
+  CycleTold rows = (s : LemmaProof) (at i : ℕ) → KeepsLemmaLimits s → CyclesShown p s at kept i → i < length s.cycles → rows ≡ cycle_at s.cycles i
       → there ≡ (at + 2 + length s.marks.walks) + (i + 1)
       → MatchOption found (CyclesShown p s at kept' (i + 1)) (λ r. IsCycleFault (arcs_of p) s.cycles (at + 2 + length s.marks.walks) r)
 
   pub cycle_more : (cycles : List (List SignedRow)) (rows d : List SignedRow) (line : ℕ) → CycleTold rows → k < length cycles
-      → rows ≡ get_or cycles k d → there ≡ line + k + 1 → (s : LemmaProof) (at : ℕ) → IsWithin s → s.cycles ≡ cycles
+      → rows ≡ get_or cycles k d → there ≡ line + k + 1 → (s : LemmaProof) (at : ℕ) → KeepsLemmaLimits s → s.cycles ≡ cycles
       → line ≡ at + 2 + length s.marks.walks → CyclesShown p s at kept k
       → MatchOption found (CyclesShown p s at kept' (k + 1)) (λ r. IsCycleFault (arcs_of p) s.cycles line r)
   cycle_more cycles rows d line told within is on s at limits same first shown =
@@ -87,11 +84,11 @@ module _ (p : Pesp) (kept kept' : KeptLemma) (k there : ℕ) (found : Option Ref
 
   -- what a judge tells of a line of the tree
   abbrev pub LineTold : List Fact → Line → Type 0
-  LineTold earlier said = (s : LemmaProof) (at i : ℕ) → IsWithin s → ShownTo p earlier s at kept i → i < length s.tree
-      → said ≡ line_of (get_or s.tree i Propagated) → there ≡ first_line s at + i → IsTold p earlier s at kept' (i + 1) found
+  LineTold earlier said = (s : LemmaProof) (at i : ℕ) → KeepsLemmaLimits s → ShownTo p earlier s at kept i → i < length s.tree
+      → said ≡ line_of (get_or s.tree i Propagated) → there ≡ first_line s at + i → LemmaIsTold p earlier s at kept' (i + 1) found
 
   pub line_more : (earlier : List Fact) (lines : List TreeLine) (line : TreeLine) (said : Line) (first : ℕ) → LineTold earlier said
-      → k < length lines → line ≡ get_or lines k line → said ≡ line_of line → there ≡ first + k → (s : LemmaProof) (at : ℕ) → IsWithin s
+      → k < length lines → line ≡ get_or lines k line → said ≡ line_of line → there ≡ first + k → (s : LemmaProof) (at : ℕ) → KeepsLemmaLimits s
       → s.tree ≡ lines → first ≡ first_line s at → ShownTo p earlier s at kept k
       → MatchOption found (ShownTo p earlier s at kept' (k + 1)) (λ r. IsLemmaFault (net_of p) earlier s at r)
   line_more earlier lines line said first told within is says on s at limits same begins shown =
@@ -153,11 +150,11 @@ module _ (lemmas : List LemmaProof) (k : ℕ) (s : LemmaProof) (within : k < len
       mapped [] = refl
       mapped (x ∷ xs) = ap (λ (fs : List Fact). x.fact ∷ fs) (mapped xs)
 
-  pub shown_next : (p : Pesp) (facts : List Fact) → facts ≡ lemmas_of (take k lemmas) → AreShownFrom (net_of p) [] (take k lemmas)
-      → IsShownFrom (net_of p) facts s → AreShownFrom (net_of p) [] (take (k + 1) lemmas)
+  pub shown_next : (p : Pesp) (facts : List Fact) → facts ≡ lemmas_of (take k lemmas) → AreShownLemmas (net_of p) [] (take k lemmas)
+      → IsShownLemma (net_of p) facts s → AreShownLemmas (net_of p) [] (take (k + 1) lemmas)
   shown_next p facts are shown one =
-      let S : List LemmaProof → Type 0 = λ ss. AreShownFrom (net_of p) [] ss in
-      let F : List Fact → Type 0 = λ fs. IsShownFrom (net_of p) fs s in
+      let S : List LemmaProof → Type 0 = λ ss. AreShownLemmas (net_of p) [] ss in
+      let F : List Fact → Type 0 = λ fs. IsShownLemma (net_of p) fs s in
       subst S (sym one_more) (shown_more (net_of p) [] (take k lemmas) s shown (subst F are one))
 
   pub lines_more : (line at : ℕ) → line ≡ at + sum_by lemma_lines (take k lemmas)

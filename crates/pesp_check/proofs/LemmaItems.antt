@@ -6,8 +6,8 @@ use Rattle.pesp_problem.specs.declared.row.SignedRow.{SignedRow}
 use Rattle.pesp_problem.specs.Timetables.{Pesp}
 use Rattle.pesp_problem.specs.Arcs.{arcs_of}
 use Rattle.pesp_problem.specs.Nodes.{cycle_at}
-use Rattle.pesp_nets.specs.declared.marked.MarkedRow.{MarkedRow}
-use Rattle.pesp_nets.specs.Nets.{AreNets}
+use Rattle.pesp_problem.specs.declared.marked.MarkedRow.{MarkedRow}
+use Rattle.pesp_problem.specs.Nets.{AreNets}
 use Rattle.pesp_truth.specs.declared.tree.TreeLine.{TreeLine}
 use Rattle.pesp_truth.specs.declared.tree.TreeLine.TheVariants as lines
 use Rattle.pesp_cert_lines.specs.declared.item.Item.{Item}
@@ -15,14 +15,13 @@ use Rattle.pesp_cert_lines.specs.declared.item.Item.TheVariants.{Front, Scale, W
 use Rattle.pesp_cert.specs.Texts.{tree_item}
 use Rattle.std.specs.Prelude.{Option, Some, None, MatchOption}
 use Rattle.pesp_problem.specs.Arcs.{net_of}
-use Rattle.pesp_truth.specs.Certificates.{line_of}
+use Rattle.pesp_truth.specs.Trees.{line_of}
 use Rattle.pesp_judges.specs.declared.refusal.Refusal.{Refusal}
-use Rattle.pesp_judges.specs.Faults.{IsCycleFault}
-use Rattle.pesp_lemma_judges.specs.Faults.{IsLemmaFault}
+use Rattle.pesp_judges.specs.Faults.{IsCycleFault, IsLemmaFault}
 use Rattle.pesp_judges.proofs.Tables.{nets_none}
-use Rattle.pesp_lemma.specs.Lemmas.{Lemma as Fact}
-use Rattle.pesp_lemma.specs.Shown.{LemmaProof}
-use Rattle.pesp_lemma_judges.specs.Showing.{KeptLemma, CyclesShown, ShownTo, IsTold, first_line}
+use Rattle.pesp_truth.specs.Lemmas.{Lemma as Fact}
+use Rattle.pesp_truth.specs.Shown.{LemmaProof}
+use Rattle.pesp_judges.specs.Showing.{KeptLemma, CyclesShown, ShownTo, LemmaIsTold, first_line}
 use Rattle.pesp_check.specs.Items.{is_line, ends_lemma, says_no_answer, begins_part}
 use Rattle.pesp_check.specs.Judging.{lemma_tree_from, lemma_cycles_from, lemma_walks_from, LemmaWalksTo, LemmaCyclesTo, LemmaTreeTo, LemmaTo}
 use Rattle.pesp_check.proofs.Lists.{IsNext, next_of, line_is_line, same_line, line_not_cycle}
@@ -409,7 +408,7 @@ module _ (p : Pesp) (earlier : List Fact) (s : LemmaProof) (at : ℕ) (kept : Ke
     cycle_told rows k kept' (Some refusal) n h = inr (inl (n.shown.rows, h))
 
     pub line_told : (tree_line : TreeLine) (k : ℕ) (kept' : KeptLemma) (found : Option Refusal) → IsNextLine tree_line k
-        → IsTold p earlier s at kept' (k + 1) found
+        → LemmaIsTold p earlier s at kept' (k + 1) found
         → MatchOption found (LemmaTo p earlier s at kept' there rest more) (λ r. IsLemmaFault (net_of p) earlier s at r)
     line_told tree_line k kept' None n h =
         let P : ℕ → Type 0 = λ i. LemmaTo p earlier s at kept' i rest more in subst P (sym on) (line_taken tree_line k kept' n (inr h))

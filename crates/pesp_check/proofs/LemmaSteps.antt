@@ -8,18 +8,17 @@ use Rattle.pesp_problem.specs.declared.pair.Pair.{Pair}
 use Rattle.pesp_problem.specs.Timetables.{Pesp}
 use Rattle.pesp_problem.specs.Arcs.{arcs_of, net_of}
 use Rattle.pesp_truth.specs.Marks.{Marks}
-use Rattle.pesp_truth.specs.Certificates.{Content}
+use Rattle.pesp_truth.specs.Certificates.{Content, Front as FrontOf}
 use Rattle.pesp_cert_lines.specs.declared.item.Item.{Item}
 use Rattle.pesp_cert_lines.specs.declared.item.Item.TheVariants.{Scale, Lemma, Least}
 use Rattle.pesp_cert.specs.Texts.{HasText, lemma_items}
 use Rattle.pesp_judges.specs.declared.refusal.Refusal.{Refusal}
 use Rattle.pesp_judges.specs.declared.refusal.Refusal.TheVariants.{NoSuch}
-use Rattle.pesp_lemma.specs.Lemmas.{Lemma as Fact, NamesRows}
-use Rattle.pesp_lemma.specs.Shown.{LemmaProof, IsShownFrom, AreShownFrom, lemmas_of}
-use Rattle.pesp_lemma.specs.Fronts.{Front as FrontOf, lemma_lines}
-use Rattle.pesp_lemma_judges.specs.Faults.{IsLemmaFault}
-use Rattle.pesp_lemma_judges.specs.Showing.{KeptLemma, IsWithin, rows_kept}
-use Rattle.pesp_lemma_judges.proofs.Telling.{lemma_whole}
+use Rattle.pesp_truth.specs.Lemmas.{Lemma as Fact, NamesRows}
+use Rattle.pesp_truth.specs.Shown.{LemmaProof, lemmas_of, lemma_lines, IsShownLemma, AreShownLemmas}
+use Rattle.pesp_judges.specs.Faults.{IsLemmaFault}
+use Rattle.pesp_judges.specs.Showing.{KeptLemma, KeepsLemmaLimits, rows_kept}
+use Rattle.pesp_judges.proofs.Telling.{lemma_whole}
 use Rattle.pesp_check.specs.Items.{ends_lemma, says_no_answer, begins_part}
 use Rattle.pesp_check.specs.declared.stage.Stage.{Stage}
 use Rattle.pesp_check.specs.declared.stage.Stage.TheVariants as stages
@@ -28,7 +27,7 @@ use Rattle.pesp_check.proofs.Lists.{cycles_later, tree_later}
 use Rattle.pesp_check.proofs.LemmaItems.{ended, shown_no_answer}
 use Rattle.pesp_check.proofs.Lemmas.{next_lemma, lemmas_begin, shown_more, fault_among}
 use Rattle.pesp_check.proofs.Passed.{passed, left_lemmas, left_behind_item, left_of_begun}
-use Rattle.pesp_check.proofs.Behind.{lemmas_refused}
+use Rattle.pesp_check.proofs.Refusing.{lemmas_refused}
 use Rattle.pesp_check.proofs.Fronts.{lemmas_to, marks_of}
 use Rattle.pesp_check.proofs.Limits.{lemma_within}
 
@@ -50,11 +49,11 @@ part_begins f c j = go (lemmas_from f c j) refl
 pub record IsComing (p : Pesp) (f : FrontOf) (c : Content) (items : List Item) (line : ℕ) (kept : KeptLemma) (facts : List Fact)
     (said : Option Marks) (j : ℕ) : Type 0 where
   pub lemma : LemmaProof
-  pub within : IsWithin lemma
+  pub within : KeepsLemmaLimits lemma
   pub next : j < length f.lemmas
   pub read : lemma ≡ get_or f.lemmas j lemma
   pub marks : said ≡ Some f.marks
-  pub shown : AreShownFrom (net_of p) [] (take j f.lemmas)
+  pub shown : AreShownLemmas (net_of p) [] (take j f.lemmas)
   pub facts_are : facts ≡ lemmas_of (take j f.lemmas)
   pub came : LemmaTo p facts lemma (line_before f j + 1) kept line items (lemmas_from f c (j + 1))
 
@@ -172,8 +171,8 @@ module _ (p : Pesp) (f : FrontOf) (c : Content) (j : ℕ) (kept : Kept) (lemma :
       let made : Fact = record { weights = lemma.weights; least = lemma.least } in
       let fact_is : made ≡ h.lemma.fact = same_fact lemma.weights lemma.least h.lemma.fact whole.1 whole.2 in
       let K : Kept → Type 0 = λ k. JudgedAt stages.Front p (Some f) c items k in
-      let E : List Fact → Type 0 = λ fs. IsShownFrom (net_of p) fs h.lemma in
-      let S : List LemmaProof → Type 0 = λ ss. AreShownFrom (net_of p) [] ss in
+      let E : List Fact → Type 0 = λ fs. IsShownLemma (net_of p) fs h.lemma in
+      let S : List LemmaProof → Type 0 = λ ss. AreShownLemmas (net_of p) [] ss in
       let taken : take (j + 1) f.lemmas ≡ take j f.lemmas ++ h.lemma ∷ [] =
       take_more f.lemmas j h.lemma h.next ∙ ap (λ (s : LemmaProof). take j f.lemmas ++ s ∷ []) (sym h.read) in
       let sums = sum_by_more lemma_lines f.lemmas j h.lemma h.next in
@@ -232,7 +231,7 @@ module _ (stage : Stage) (p : Pesp) (front : Option FrontOf) (c : Content) (item
 
   -- what a judge told of the next item
   abbrev Told : KeptLemma → ℕ → Option Refusal → Type 0
-  Told lemma' at found = (s : LemmaProof) (first before : ℕ) (items more : List Item) → IsWithin s → begins_part more ≡ true
+  Told lemma' at found = (s : LemmaProof) (first before : ℕ) (items more : List Item) → KeepsLemmaLimits s → begins_part more ≡ true
       → ends_lemma item ≡ false → at ≡ before + 1 → LemmaTo p kept.facts s first lemma before (item ∷ items) more
       → MatchOption found (LemmaTo p kept.facts s first lemma' at items more) (λ r. IsLemmaFault (net_of p) kept.facts s first r)
 

@@ -5,15 +5,14 @@ use Rattle.std.proofs.lemmas.Bool.{cases_lt}
 use Rattle.std.proofs.lemmas.List.{drop_all, drop_more, get_or_default}
 use Rattle.std.proofs.lemmas.List.Sums.{sum_by-cons}
 use Rattle.pesp_problem.specs.Arcs.{Net}
-use Rattle.pesp_truth.specs.Certificates.{Content}
+use Rattle.pesp_truth.specs.Certificates.{Content, Front as FrontOf}
 use Rattle.pesp_cert_lines.specs.declared.item.Item.{Item}
 use Rattle.pesp_cert_lines.specs.declared.item.Item.TheVariants.{Scale, Walk, Lemma, Least, Version, Cycle}
 use Rattle.pesp_cert.specs.Texts.{tree_item, lemma_items}
 use Rattle.pesp_judges.specs.declared.refusal.Refusal.{Refusal}
-use Rattle.pesp_lemma.specs.Lemmas.{Lemma as Fact}
-use Rattle.pesp_lemma.specs.Shown.{LemmaProof, IsShownFrom, AreShownFrom, lemmas_of}
-use Rattle.pesp_lemma.specs.Fronts.{Front as FrontOf, lemma_lines}
-use Rattle.pesp_lemma_judges.specs.Faults.{IsLemmaFault, IsLemmasFault}
+use Rattle.pesp_truth.specs.Lemmas.{Lemma as Fact}
+use Rattle.pesp_truth.specs.Shown.{LemmaProof, lemmas_of, lemma_lines, IsShownLemma, AreShownLemmas}
+use Rattle.pesp_judges.specs.Faults.{IsLemmaFault, IsLemmasFault}
 use Rattle.pesp_check.specs.Items.{ends_lemma}
 use Rattle.pesp_check.specs.Judging.{behind, lemmas_from, lemma_walks_from}
 
@@ -66,16 +65,16 @@ lemmas_begin f c j item rest e = elim (next_lemma f.lemmas (behind c) j item res
 
 -- ---- those that are shown
 
-pub shown_more : (n : Net) (earlier : List Fact) (xs : List LemmaProof) (s : LemmaProof) → AreShownFrom n earlier xs
-    → IsShownFrom n (earlier ++ lemmas_of xs) s → AreShownFrom n earlier (xs ++ s ∷ [])
-shown_more n earlier [] s h one = let P : List Fact → Type 0 = λ fs. IsShownFrom n fs s in (subst P (append-nil earlier) one, tt)
+pub shown_more : (n : Net) (earlier : List Fact) (xs : List LemmaProof) (s : LemmaProof) → AreShownLemmas n earlier xs
+    → IsShownLemma n (earlier ++ lemmas_of xs) s → AreShownLemmas n earlier (xs ++ s ∷ [])
+shown_more n earlier [] s h one = let P : List Fact → Type 0 = λ fs. IsShownLemma n fs s in (subst P (append-nil earlier) one, tt)
 shown_more n earlier (x ∷ xs) s h one =
-    let P : List Fact → Type 0 = λ fs. IsShownFrom n fs s in
+    let P : List Fact → Type 0 = λ fs. IsShownLemma n fs s in
     (h.0, shown_more n (earlier ++ x.fact ∷ []) xs s h.1 (subst P (sym (append_assoc earlier (x.fact ∷ []) (lemmas_of xs))) one))
 
 -- the fault of one is that of all, where those before it are shown
 pub fault_among : (n : Net) (earlier : List Fact) (xs : List LemmaProof) (j at : ℕ) (s : LemmaProof) (refusal : Refusal) → j < length xs
-    → s ≡ get_or xs j s → AreShownFrom n earlier (take j xs)
+    → s ≡ get_or xs j s → AreShownLemmas n earlier (take j xs)
     → IsLemmaFault n (earlier ++ lemmas_of (take j xs)) s (at + sum_by lemma_lines (take j xs)) refusal
     → IsLemmasFault n earlier xs at refusal
 fault_among n earlier [] j at s refusal l is h f = absurd (omega arith)

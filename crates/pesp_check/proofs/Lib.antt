@@ -11,7 +11,8 @@ pub mod Lemmas
 pub mod LemmaItems
 pub mod LemmaSteps
 pub mod Passed
-pub mod Behind
+pub mod Refusing
 pub mod LemmaCheck
 pub mod Valid
 pub mod OwnWeights
+pub mod Claims

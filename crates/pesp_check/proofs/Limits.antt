@@ -9,16 +9,15 @@ use Rattle.pesp_truth.specs.declared.tree.TreeLine.{TreeLine}
 use Rattle.pesp_truth.specs.declared.tree.TreeLine.TheVariants.{Slack, Offset, Bound, Nothing, Gap, Propagated}
 use Rattle.pesp_cert_lines.specs.Pairs.{is_pair_within, all_within, follows, rise_from}
 use Rattle.pesp_cert_lines.specs.Rows.{is_name}
-use Rattle.pesp_cert.specs.Limits.{are_pairs, are_cycles, are_lines, are_lemmas, is_line, is_cycle, is_lemma, is_shown_lemma, front_keeps_limits, total_rows, total_pairs}
+use Rattle.pesp_cert.specs.Limits.{are_pairs, are_cycles, are_lines, are_lemmas, line_keeps_limits, is_cycle, is_lemma, is_shown_lemma, front_keeps_limits, total_rows, total_pairs}
 use Rattle.pesp_cert.specs.Texts.{HasText}
 use Rattle.pesp_cert.proofs.FrontRuns.{fronts_iff}
-use Rattle.pesp_truth.specs.FrontLimits.{keeps_limits as marks_keep_limits}
-use Rattle.pesp_truth.specs.Trees.{are_trees}
-use Rattle.pesp_truth.specs.Certificates.{Content, line_of}
-use Rattle.pesp_lemma.specs.Limits.{rises_from, keeps_limits}
-use Rattle.pesp_lemma.specs.Shown.{LemmaProof}
-use Rattle.pesp_lemma.specs.Fronts.{Front}
-use Rattle.pesp_lemma_judges.specs.Showing.{IsWithin}
+use Rattle.pesp_truth.specs.FrontLimits.{marks_keep_limits as marks_keep_limits}
+use Rattle.pesp_truth.specs.Trees.{are_trees, line_of}
+use Rattle.pesp_truth.specs.Certificates.{Content, Front}
+use Rattle.pesp_truth.specs.Limits.{rises_from, weights_keep_limits}
+use Rattle.pesp_truth.specs.Shown.{LemmaProof}
+use Rattle.pesp_judges.specs.Showing.{KeepsLemmaLimits}
 use Rattle.std.proofs.lemmas.List.Sums.{AllPass-from_list_all}
 use Rattle.pesp_cert.proofs.ShortLaws.{pairs_few}
 use Rattle.pesp_leaves.specs.Flows.{ArePairLimits}
@@ -54,7 +53,7 @@ pair_limits pairs e =
         let high = le_of pair.cycle 100000 ((both (nat_le 1 pair.cycle) (nat_le pair.cycle 100000) numbers.0).1) in
         omega (arith, pairs_few (pair.cycle + 1) pairs (omega (arith, high)) here.1 within.1)
 
-line_keeps : (line : TreeLine) → is_line line ≡ true → KeepsLineLimits line
+line_keeps : (line : TreeLine) → line_keeps_limits line ≡ true → KeepsLineLimits line
 line_keeps (Slack row k) e = le_of k 9999 ((both (is_name row) (nat_le k 9999) e).1)
 line_keeps (Offset cycle k) e = le_of (nat_abs k) 100000000000000 ((both (is_name cycle) (nat_le (nat_abs k) 100000000000000) e).1)
 line_keeps (Bound pairs) e = pair_limits pairs e
@@ -62,10 +61,10 @@ line_keeps (Nothing pairs) e = pair_limits pairs e
 line_keeps (Gap cycle) e = tt
 line_keeps Propagated e = tt
 
-pub line_limits : (lines : List TreeLine) → list_all is_line lines ≡ true → All KeepsLineLimits lines
+pub line_limits : (lines : List TreeLine) → list_all line_keeps_limits lines ≡ true → All KeepsLineLimits lines
 line_limits [] e = All-nil KeepsLineLimits
 line_limits (line ∷ lines) e =
-    let here = both (is_line line) (list_all is_line lines) e in
+    let here = both (line_keeps_limits line) (list_all line_keeps_limits lines) e in
     All-cons KeepsLineLimits line lines (line_keeps line here.0) (line_limits lines here.1)
 
 -- ---- the lemmas of a front
@@ -89,12 +88,12 @@ rises_1 (pair ∷ pairs) r w =
     rw (first, numbers.1, rises (pair.cycle + 1) pairs here.1 within.1) refl
 
 -- the pairs of a text's lemma keep the limits of weights
-pub weights_keep : (pairs : List Pair) → are_pairs pairs ≡ true → keeps_limits pairs ≡ true
+pub weights_keep : (pairs : List Pair) → are_pairs pairs ≡ true → weights_keep_limits pairs ≡ true
 weights_keep pairs e = let split = both (rise_from 0 pairs) (all_within pairs) e in rises_1 pairs split.0 split.1
 
 pub record IsShownWithin (s : LemmaProof) : Type 0 where
-  pub weights : keeps_limits s.fact.weights ≡ true
-  pub within : IsWithin s
+  pub weights : weights_keep_limits s.fact.weights ≡ true
+  pub within : KeepsLemmaLimits s
   pub rows : total_rows s.cycles ≤ 10000000
   pub lines : length s.tree ≤ 1000000
   pub each_line : All KeepsLineLimits s.tree
@@ -108,9 +107,9 @@ shown_within s e =
     let pairs = both (are_pairs s.fact.weights) (nat_lt (nat_abs s.fact.least) 1000000000000000000) fact.0 in
     let few = both (nat_le (length s.cycles) 100000 && nat_le (total_rows s.cycles) 10000000) (list_all is_cycle s.cycles) head.1 in
     let counts = both (nat_le (length s.cycles) 100000) (nat_le (total_rows s.cycles) 10000000) few.0 in
-    let lines = nat_le (length s.tree) 1000000 && nat_le (total_pairs s.tree) 20000000 && list_all is_line s.tree in
+    let lines = nat_le (length s.tree) 1000000 && nat_le (total_pairs s.tree) 20000000 && list_all line_keeps_limits s.tree in
     let tree = both lines (are_trees 1 (map line_of s.tree)) front.1 in
-    let each = both (nat_le (length s.tree) 1000000 && nat_le (total_pairs s.tree) 20000000) (list_all is_line s.tree) tree.0 in
+    let each = both (nat_le (length s.tree) 1000000 && nat_le (total_pairs s.tree) 20000000) (list_all line_keeps_limits s.tree) tree.0 in
     let long = both (nat_le (length s.tree) 1000000) (nat_le (total_pairs s.tree) 20000000) each.0 in
     record {
       weights = weights_keep s.fact.weights pairs.0;
@@ -134,7 +133,7 @@ each_lemma lemmas e j d l =
     AllPass-from_list_all is_shown_lemma lemmas (both (nat_le (length lemmas) 100000) (list_all is_shown_lemma lemmas) e).1 j d l
 
 pub lemma_within : (f : Front) (c : Content) → HasText (Some f) c → (j : ℕ) (s : LemmaProof) → j < length f.lemmas
-    → s ≡ get_or f.lemmas j s → IsWithin s
+    → s ≡ get_or f.lemmas j s → KeepsLemmaLimits s
 lemma_within f c has j s l is =
     let keeps = ((fronts_iff (Some f) c).1 has).0 in
     let one = each_lemma f.lemmas (lemmas_keep f keeps) j s l in

@@ -1,7 +1,6 @@
 -- The lines of the tree as they come, and the end.
 use Rattle.std.proofs.Common.{◌≡◌, ◌≢◌, ◌⊎◌, inl, inr, ℕ, ◌+◌, ◌<◌, ◌≤◌, arith, true, false, List, [], ◌∷◌, length, get_or, map, refl, sym, ap, subst, ◌∙◌, Option, Some, None}
-use Rattle.std.specs.Prelude.{All, IfSome, MatchOption, min, nat_lt}
-use Rattle.std.proofs.lemmas.Bool.Decides.{nat_tests}
+use Rattle.std.specs.Prelude.{All, IfSome, IsSomeAnd, MatchOption, min}
 use Rattle.std.specs.List.{list_all}
 use Rattle.std.proofs.lemmas.List.{take_all}
 use Rattle.pesp_problem.specs.declared.row.SignedRow.{SignedRow}
@@ -9,44 +8,38 @@ use Rattle.pesp_problem.specs.Timetables.{Pesp}
 use Rattle.pesp_problem.specs.Arcs.{arcs_of, net_of}
 use Rattle.pesp_problem.specs.Walks.{IsWalk}
 use Rattle.pesp_problem.specs.Nodes.{Node, root}
-use Rattle.pesp_nets.specs.Marked.{IsMarkedWalk}
-use Rattle.pesp_truth.specs.Marks.{Marks, AreMarks}
-use Rattle.pesp_truth.specs.FrontLimits.{KeepsLimits as FrontKeepsLimits}
+use Rattle.pesp_problem.specs.Marked.{IsMarkedWalk}
+use Rattle.pesp_truth.specs.Marks.{Marks}
+use Rattle.pesp_truth.specs.FrontLimits.{MarksKeepLimits as FrontKeepsLimits}
 use Rattle.pesp_truth.proofs.FrontLimits.{limits_of}
 use Rattle.pesp_truth.specs.declared.tree.TreeLine.{TreeLine}
-use Rattle.pesp_truth.specs.Trees.{are_trees}
-use Rattle.pesp_truth.specs.Certificates.{Content, line_of, lines_of, least_of}
-use Rattle.pesp_lemma.specs.Lemmas.{Lemma as Fact}
-use Rattle.pesp_lemma.specs.Trees.{Goal, cost_goal}
-use Rattle.pesp_lemma.specs.Shown.{LemmaProof, lemmas_of}
-use Rattle.pesp_lemma.specs.Fronts.{Front as FrontOf, IsValidBehind}
+use Rattle.pesp_truth.specs.Trees.{Claim, are_trees, line_of}
+use Rattle.pesp_truth.specs.Certificates.{Content, lines_of, least_of, Front as FrontOf, claim_of, IsValid}
+use Rattle.pesp_truth.specs.Lemmas.{Lemma as Fact}
+use Rattle.pesp_truth.specs.Shown.{lemmas_of}
 use Rattle.pesp_cert_lines.specs.declared.item.Item.{Item}
 use Rattle.pesp_cert_lines.specs.declared.item.Item.TheVariants.{Cycle, End}
 use Rattle.pesp_cert.specs.Texts.{HasText, tree_item}
-use Rattle.pesp_truth.specs.declared.answer.Answer.{Answer}
-use Rattle.pesp_truth.specs.declared.answer.Answer.TheVariants.{Optimal, Infeasible, Bounded}
-use Rattle.pesp_cert_lines.proofs.Tests.{and_left}
-use Rattle.pesp_cert.specs.Limits.{is_cost, has_costs}
 use Rattle.pesp_cert.proofs.FrontRuns.{fronts_iff}
 use Rattle.pesp_judges.specs.declared.refusal.Refusal.{Refusal}
-use Rattle.pesp_nets.specs.Nets.{AreNets}
+use Rattle.pesp_problem.specs.Nets.{AreNets}
 use Rattle.pesp_judges.specs.Pending.{Standing}
-use Rattle.pesp_judges.specs.Faults.{IsMarksFault}
-use Rattle.pesp_judges.specs.Lines.{after, IsSoundLine, IsLineFault, IsLineVerdict, AreJudged}
-use Rattle.pesp_lemma_judges.specs.Lines.{IsLineVerdictFrom, AreJudgedFrom}
-use Rattle.pesp_lemma_judges.specs.Faults.{IsFirstFaultBehind}
+use Rattle.pesp_judges.specs.Faults.{IsMarkFault, IsMarksFault, IsFirstFault, own_line}
+use Rattle.pesp_judges.specs.Lines.{after, IsLineVerdict}
 use Rattle.pesp_check.specs.Costs.{facts_said}
+use Rattle.pesp_check.specs.Rooms.{claim_from}
 use Rattle.pesp_check.specs.Items.{says_no_answer, is_line, begins_tree}
 use Rattle.pesp_check.specs.declared.stage.Stage.{Stage}
 use Rattle.pesp_check.specs.declared.stage.Stage.TheVariants as stages
-use Rattle.pesp_check.specs.Judging.{Kept, MarksSaid, marks_said, is_before_tree, own_line, tree_from, cycles_from, lemmas_from, line_before, AreJudgedBehind, FrontCame, FrontTo, CyclesTo, TreeTo, JudgedAt}
+use Rattle.pesp_check.specs.Judging.{Kept, MarksSaid, marks_said, is_before_tree, tree_from, cycles_from, lemmas_from, line_before, AreJudgedBehind, FrontCame, FrontTo, CyclesTo, TreeTo, JudgedAt}
 use Rattle.pesp_judges.proofs.Closing.{all_walks}
 use Rattle.pesp_judges.proofs.Judged.{judged_none, open_there, whole_more, judged_more, fault_here, judged_all}
-use Rattle.pesp_lemma_judges.proofs.Judged.{judged_none as from_none, judged_more as from_more, fault_here as from_fault, judged_all as from_all}
 use Rattle.pesp_check.proofs.Lists.{IsNext, next_of, line_not_end, same_line, tree_ended, cycles_ended}
 use Rattle.pesp_check.proofs.Limits.{marks_keep}
 use Rattle.pesp_check.proofs.Passed.{passed, all_tree, line_no, answered}
-use Rattle.pesp_check.proofs.Behind.{HasNoLemmas, marks_in, own_adds, marks_refused as behind_marks_refused, judged_none_of, to_plain, to_lemmas, plain_refused, from_refused, plain_valid, from_valid}
+use Rattle.pesp_check.proofs.Inner.{marks_in, in_marks, in_front, fault_in, claim_is}
+use Rattle.pesp_check.proofs.Claims.{least_few}
+use Rattle.pesp_check.proofs.Refusing.{own_adds, marks_refused as front_refused, tree_refused, valid_there}
 use Rattle.pesp_check.proofs.LemmaItems.{no_other}
 use Rattle.pesp_check.proofs.LemmaSteps.{part_begins}
 use Rattle.pesp_check.proofs.Fronts.{front_done, shown_of}
@@ -54,7 +47,7 @@ use Rattle.pesp_check.proofs.Cycles.{shown_still, none_coming}
 
 -- ---- what has a text
 
-pub keeps_front : (front : Option FrontOf) (c : Content) → HasText front c → IfSome (marks_in front) FrontKeepsLimits
+pub keeps_front : (front : Option FrontOf) (c : Content) → HasText front c → IfSome front (λ f. FrontKeepsLimits f.marks)
 keeps_front None c has = tt
 keeps_front (Some f) c has = limits_of f.marks (marks_keep f ((fronts_iff (Some f) c).1 has).0)
 
@@ -64,16 +57,8 @@ whole_text front c has = ((fronts_iff front c).1 has).1.whole
 pub few_cycles : (front : Option FrontOf) (c : Content) → HasText front c → length c.cycles ≤ 100000
 few_cycles front c has = ((fronts_iff front c).1 has).1.cycles
 
-few_of : (a b : ℕ) → nat_lt a b ≡ true → a < b
-few_of a b e = grind (arith, nat_tests, e)
-
 pub few_least : (front : Option FrontOf) (c : Content) → HasText front c → IfSome (least_of c.answer) (λ l. l < 1000000000000000000)
-few_least front c has = go c.answer (((fronts_iff front c).1 has).1.answer)
-  where
-    go : (a : Answer) → has_costs a ≡ true → IfSome (least_of a) (λ l. l < 1000000000000000000)
-    go (Optimal n) h = few_of n 1000000000000000000 h
-    go Infeasible h = tt
-    go (Bounded n cost) h = few_of n 1000000000000000000 (and_left (nat_lt n 1000000000000000000) (is_cost cost) h)
+few_least front c has = least_few c.answer (((fronts_iff front c).1 has).1.answer)
 
 -- ---- all cycles came
 
@@ -102,14 +87,6 @@ pub made_is : (front made : Option Marks) (draft : MarksSaid) → IfSome front F
     → (IfSome (marks_said draft) FrontKeepsLimits → made ≡ marks_said draft) → made ≡ front
 made_is front made draft keeps said is = is (subst (λ f. IfSome f FrontKeepsLimits) (sym said) keeps) ∙ said
 
-if_in : (front : Option FrontOf) (P : Marks → Type 0) → IfSome (marks_in front) P → IfSome front (λ f. P f.marks)
-if_in None P h = h
-if_in (Some f) P h = h
-
-in_if : (front : Option FrontOf) (P : Marks → Type 0) → IfSome front (λ f. P f.marks) → IfSome (marks_in front) P
-in_if None P h = h
-in_if (Some f) P h = h
-
 -- what came where the tree begins, with the marks that were made
 module _ (stage : Stage) (p : Pesp) (front : Option FrontOf) (c : Content) (rest : List Item) (kept : Kept) (made : Option Marks)
     (is : stage ≡ stages.Cycles) (has : HasText front c) (b : begins_tree rest ≡ true)
@@ -125,7 +102,7 @@ module _ (stage : Stage) (p : Pesp) (front : Option FrontOf) (c : Content) (rest
   done = cycles_done c to_cycles.0 rest b cycles.left
 
   same : made ≡ marks_in front
-  same = made_is (marks_in front) made kept.draft (keeps_front front c has) (said_is p front kept cycles.front_came) limits
+  same = made_is (marks_in front) made kept.draft (in_marks front FrontKeepsLimits (keeps_front front c has)) (said_is p front kept cycles.front_came) limits
 
   nets : AreNets (length p.rows) c.cycles kept.table
   nets = subst (λ (ws : List (List SignedRow)). AreNets (length p.rows) ws kept.table)
@@ -136,16 +113,8 @@ module _ (stage : Stage) (p : Pesp) (front : Option FrontOf) (c : Content) (rest
 
   -- no line of the tree was judged so far
   at_root : AreJudgedBehind p front c (root (net_of p) c.cycles ∷ []) 0
-  at_root =
-      let n = net_of p in
-      let first = own_line front (4 + length c.times + length c.cycles) in
-      judged_none_of p c front (judged_none (marks_in front) n c.cycles (least_of c.answer) c.tree (root n c.cycles) first)
-      (for_each front (λ f. from_none f.marks (lemmas_of f.lemmas) n c.cycles (cost_goal n (least_of c.answer)) c.tree (root n c.cycles)
-      (own_line (Some f) (4 + length c.times + length c.cycles))))
-    where
-      for_each : {P : FrontOf → Type 0} (g : Option FrontOf) → ((f : FrontOf) → P f) → IfSome g P
-      for_each None h = tt
-      for_each (Some f) h = h f
+  at_root = judged_none (claim_of front (net_of p) (least_of c.answer)) (net_of p) c.cycles c.tree (root (net_of p) c.cycles)
+      (own_line front (4 + length c.times + length c.cycles))
 
   pub cycles_end : (standing : Standing) (node : Node) (kept' : Kept)
       → kept' ≡ record kept { draft = kept'.draft; front = made; walk = Some standing }
@@ -171,7 +140,7 @@ module _ (stage : Stage) (p : Pesp) (front : Option FrontOf) (c : Content) (rest
           lemmas = shown_of p front kept cycles.front_came;
           walks = walks;
           nets = nets;
-          closed = if_in front C (subst (λ g. IfSome g C) same closed);
+          closed = in_front front C (subst (λ g. IfSome g C) same closed);
           walk = refl;
           whole = subst Q (sym at) (whole_text front c has);
           judged = subst P (sym at) at_root;
@@ -181,34 +150,21 @@ module _ (stage : Stage) (p : Pesp) (front : Option FrontOf) (c : Content) (rest
       )
 
   pub marks_refused : (refusal : Refusal) (number : ℕ) (kept' : Kept) → number ≡ min (length kept.table) 100000
-      → kept'.answer ≡ kept.answer → kept'.lemma ≡ kept.lemma → IsMarksFault made (arcs_of p) number refusal
+      → kept'.answer ≡ kept.answer → kept'.lemma ≡ kept.lemma
+      → IsSomeAnd made (λ marks. IsMarkFault (arcs_of p) number 2 marks.walks refusal)
       → JudgedAt (stages.Refused refusal) p front c rest kept'
   marks_refused refusal number kept' e a gone fault =
       let all : number ≡ length c.cycles = omega (arith, e, nets.long, few_cycles front c has) in
-      let P : Option Marks → Type 0 = λ f. IsMarksFault f (arcs_of p) number refusal in
-      let Q : ℕ → Type 0 = λ n. IsMarksFault (marks_in front) (arcs_of p) n refusal in
+      let P : Option Marks → Type 0 = λ o. IsSomeAnd o (λ marks. IsMarkFault (arcs_of p) number 2 marks.walks refusal) in
+      let Q : ℕ → Type 0 = λ n. IsMarksFault front p n refusal in
       record {
         none = gone ∙ none_coming p front kept cycles.front_came;
         answer = inl (a ∙ cycles.shown.answer, ap (list_all says_no_answer) done.left ∙ all_tree c 0);
-        first = behind_marks_refused p c refusal front (shown_of p front kept cycles.front_came) cycles.shown.period cycles.shown.shows walks
-            (subst Q all (subst P same fault));
+        first = front_refused p c refusal front (shown_of p front kept cycles.front_came) cycles.shown.period cycles.shown.shows walks
+            (subst Q all (fault_in front (λ (m : Marks). IsMarkFault (arcs_of p) number 2 m.walks refusal) (subst P same fault)));
       }
 
 -- ---- one line
-
--- lemmas that are none
-no_lemmas : (front : Option FrontOf) → facts_said front ≡ [] → HasNoLemmas front
-no_lemmas None e = tt
-no_lemmas (Some f) e = go f.lemmas e
-  where
-    go : (ss : List LemmaProof) → lemmas_of ss ≡ [] → ss ≡ []
-    go [] e = refl
-    go (s ∷ ss) e = absurd cc
-
--- or some
-pub some_front : (front : Option FrontOf) → (facts_said front ≡ [] → ⊥) → (f : FrontOf) × (front ≡ Some f) × (f.lemmas ≡ [] → ⊥)
-some_front None some = absurd (some refl)
-some_front (Some f) some = (f, refl, λ e. some (ap lemmas_of e))
 
 module _ (p : Pesp) (front : Option FrontOf) (c : Content) (line : TreeLine) (rest : List Item) (kept : Kept) (stage : Stage)
     (is : stage ≡ stages.Tree) (before : JudgedAt stage p front c (tree_item line ∷ rest) kept) where
@@ -294,130 +250,44 @@ module _ (p : Pesp) (front : Option FrontOf) (c : Content) (line : TreeLine) (re
       ∙ ap (own_line front) (omega arith) ∙ sym (own_adds front (4 + length c.times + length c.cycles) k)
 
   refused : (refusal : Refusal) (kept' : Kept) → kept'.answer ≡ kept.answer → kept'.lemma ≡ kept.lemma
-      → IsFirstFaultBehind front p c refusal → JudgedAt (stages.Refused refusal) p front c rest kept'
+      → IsFirstFault front p c refusal → JudgedAt (stages.Refused refusal) p front c rest kept'
   refused refusal kept' a gone first = record {
     none = gone ∙ tree.gone;
     answer = inl (a ∙ tree.shown.answer, ap (list_all says_no_answer) next.1.left ∙ all_tree c (k + 1));
     first = first;
   }
 
-  -- ---- without lemmas
+  -- what the line is judged by
+  claim_there : (marks : Option Marks) (facts : List Fact) → marks ≡ kept.front → facts ≡ kept.facts
+      → claim_from marks facts (net_of p) (least_of c.answer) ≡ claim_of front (net_of p) (least_of c.answer)
+  claim_there marks facts m f =
+      ap (λ (o : Option Marks). claim_from o facts (net_of p) (least_of c.answer)) (m ∙ tree.front_is)
+      ∙ ap (λ (fs : List Fact). claim_from (marks_in front) fs (net_of p) (least_of c.answer)) (f ∙ tree.facts)
+      ∙ claim_is front (net_of p) (least_of c.answer)
 
-  module _ (plain : kept.facts ≡ []) where
-    none : HasNoLemmas front
-    none = no_lemmas front (sym tree.facts ∙ plain)
-
-    judged : AreJudged (marks_in front) (net_of p) c.cycles (least_of c.answer) c.tree (root (net_of p) c.cycles)
-        (own_line front (4 + length c.times + length c.cycles)) standing.nodes k
-    judged = (to_plain p c front standing.nodes k none).0 tree.judged
-
-    -- what is said at the node where the walk stands is said for the certificate's answer
-    pub line_found : (walk walk' : Standing) (least : Option ℕ) (at : ℕ) (found : Option Refusal)
-        → kept.walk ≡ Some walk → least ≡ least_of kept.answer
-        → IsLineVerdict kept.front (net_of p) c.cycles least (line_of line) walk.nodes walk'.nodes at found
-        → IsLineVerdict (marks_in front) (net_of p) c.cycles (least_of c.answer) (line_of line) standing.nodes walk'.nodes at found
-    line_found walk walk' least at found e l v =
-        let F : Option Marks → Type 0 = λ f. IsLineVerdict f (net_of p) c.cycles least (line_of line) walk.nodes walk'.nodes at found in
-        let P : Standing → Type 0 = λ st. IsLineVerdict (marks_in front) (net_of p) c.cycles (least_of c.answer)
-        (line_of line) st.nodes walk'.nodes at found in
-        let Q : Option ℕ → Type 0 = λ m. IsLineVerdict (marks_in front) (net_of p) c.cycles m (line_of line) walk.nodes walk'.nodes at found in
-        subst P (sym (standing_is walk e)) (subst Q (l ∙ ap least_of answer_is) (subst F front_is v))
-
-    pub line_taken : (standing' : Standing) (kept' : Kept)
-        → kept' ≡ record kept { line = kept.line + 1; walk = Some standing' }
-        → IsSoundLine (marks_in front) (net_of p) c.cycles (least_of c.answer) (line_of line) standing.nodes
-        → standing'.nodes ≡ after (line_of line) standing.nodes
-        → JudgedAt stage p front c rest kept'
-    line_taken standing' kept' e sound nodes = taken standing' kept' e nodes
-        ((to_plain p c front standing'.nodes (k + 1) none).1
-        (judged_more c.tree k line next.1.within read (marks_in front) (net_of p) c.cycles (least_of c.answer) (root (net_of p) c.cycles)
-        (own_line front (4 + length c.times + length c.cycles)) standing.nodes judged standing'.nodes sound nodes))
-
-    pub line_refused : (refusal : Refusal) (at : ℕ) (kept' : Kept) → at ≡ kept.line + 1 → kept'.answer ≡ kept.answer
-        → kept'.lemma ≡ kept.lemma → are_trees 1 (lines_of c) ≡ true
-        → IsLineFault (marks_in front) (net_of p) c.cycles (least_of c.answer) (line_of line) standing.nodes at refusal
-        → JudgedAt (stages.Refused refusal) p front c rest kept'
-    line_refused refusal at kept' e a gone whole fault = refused refusal kept' a gone
-        (plain_refused p c whole tree.shown.period tree.shown.shows tree.walks front refusal none tree.closed
-        (fault_here c.tree k line next.1.within read (marks_in front) (net_of p) c.cycles (least_of c.answer) (root (net_of p) c.cycles)
-        (own_line front (4 + length c.times + length c.cycles)) standing.nodes judged at refusal (number_is at e) fault))
-
--- ---- one line of a tree that may name lemmas
-
-module _ (p : Pesp) (f : FrontOf) (c : Content) (line : TreeLine) (rest : List Item) (kept : Kept) (stage : Stage)
-    (is : stage ≡ stages.Tree) (before : JudgedAt stage p (Some f) c (tree_item line ∷ rest) kept) (some : f.lemmas ≡ [] → ⊥) where
-  abbrev goal : Goal
-  goal = cost_goal (net_of p) (least_of c.answer)
-
-  abbrev first : ℕ
-  first = own_line (Some f) (4 + length c.times + length c.cycles)
-
-  abbrev place : ℕ
-  place = k p (Some f) c line rest kept stage is before
-
-  abbrev nodes_there : List Node
-  nodes_there = (standing p (Some f) c line rest kept stage is before).nodes
-
-  abbrev came : TreeTo p (Some f) c (tree_item line ∷ rest) kept place (standing p (Some f) c line rest kept stage is before)
-  came = tree p (Some f) c line rest kept stage is before
-
-  judged_from : AreJudgedFrom f.marks (lemmas_of f.lemmas) (net_of p) c.cycles goal c.tree (root (net_of p) c.cycles) first nodes_there place
-  judged_from = (to_lemmas p c f f.lemmas nodes_there place some).0 came.judged
-
-  pub marks_is : (marks : Marks) → kept.front ≡ Some marks → marks ≡ f.marks
-  marks_is marks e = let same : Some marks ≡ Some f.marks = sym e ∙ came.front_is in cc
-
-  pub line_told : (walk walk' : Standing) (marks : Marks) (facts : List Fact) (at : ℕ) (found : Option Refusal) (taken' refused' : Kept)
-      → kept.walk ≡ Some walk → kept.front ≡ Some marks → facts ≡ kept.facts → at ≡ kept.line + 1 → are_trees 1 (lines_of c) ≡ true
+  pub line_told : (walk walk' : Standing) (marks : Option Marks) (facts : List Fact) (at : ℕ) (found : Option Refusal) (taken' refused' : Kept)
+      → kept.walk ≡ Some walk → marks ≡ kept.front → facts ≡ kept.facts → at ≡ kept.line + 1 → are_trees 1 (lines_of c) ≡ true
       → taken' ≡ record kept { line = kept.line + 1; walk = Some walk' } → refused'.answer ≡ kept.answer → refused'.lemma ≡ kept.lemma
-      → IsLineVerdictFrom marks facts (net_of p) c.cycles goal (line_of line) walk.nodes walk'.nodes at found
-      → MatchOption found (JudgedAt stage p (Some f) c rest taken') (λ refusal. JudgedAt (stages.Refused refusal) p (Some f) c rest refused')
-  line_told walk walk' marks facts at found taken' refused' w m fs e whole new a gone v =
+      → IsLineVerdict (claim_from marks facts (net_of p) (least_of c.answer)) (net_of p) c.cycles (line_of line) walk.nodes walk'.nodes at found
+      → MatchOption found (JudgedAt stage p front c rest taken') (λ refusal. JudgedAt (stages.Refused refusal) p front c rest refused')
+  line_told walk walk' marks facts at found taken' refused' w m f e whole new a gone v =
       let n = net_of p in
-      let N : Standing → Type 0 = λ st. IsLineVerdictFrom f.marks (lemmas_of f.lemmas) n c.cycles goal (line_of line) st.nodes walk'.nodes at found in
-      let F : List Fact → Type 0 = λ gs. IsLineVerdictFrom f.marks gs n c.cycles goal (line_of line) walk.nodes walk'.nodes at found in
-      let M : Marks → Type 0 = λ ms. IsLineVerdictFrom ms facts n c.cycles goal (line_of line) walk.nodes walk'.nodes at found in
-      let there = subst N (sym (standing_is p (Some f) c line rest kept stage is before walk w)) (subst F (fs ∙ came.facts) (subst M (marks_is marks m) v)) in
-      match found there
+      let claim = claim_of front n (least_of c.answer) in
+      let C : Claim → Type 0 = λ x. IsLineVerdict x n c.cycles (line_of line) walk.nodes walk'.nodes at found in
+      let N : Standing → Type 0 = λ st. IsLineVerdict claim n c.cycles (line_of line) st.nodes walk'.nodes at found in
+      match found (subst N (sym (standing_is walk w)) (subst C (claim_there marks facts m f) v))
     where
-      nextline : (x : TreeLine) × IsNext tree_item c.tree place (End ∷ []) (tree_item line) rest x
-      nextline = next p (Some f) c line rest kept stage is before
-
-      reads : line ≡ get_or c.tree place line
-      reads = read p (Some f) c line rest kept stage is before
-
       match : (o : Option Refusal)
-          → IsLineVerdictFrom f.marks (lemmas_of f.lemmas) (net_of p) c.cycles goal (line_of line) nodes_there walk'.nodes at o
-          → MatchOption o (JudgedAt stage p (Some f) c rest taken') (λ refusal. JudgedAt (stages.Refused refusal) p (Some f) c rest refused')
-      match None h = taken p (Some f) c line rest kept stage is before walk' taken' new h.1
-          ((to_lemmas p c f f.lemmas walk'.nodes (place + 1) some).1
-          (from_more c.tree place line nextline.1.within reads f.marks (lemmas_of f.lemmas) (net_of p) c.cycles goal (root (net_of p) c.cycles) first
-          nodes_there judged_from walk'.nodes h.0 h.1))
-      match (Some refusal) h = refused p (Some f) c line rest kept stage is before refusal refused' a gone
-          (from_refused p c whole came.shown.period came.shown.shows came.walks f refusal some came.lemmas came.closed
-          (from_fault c.tree place line nextline.1.within reads f.marks (lemmas_of f.lemmas) (net_of p) c.cycles goal (root (net_of p) c.cycles) first
-          nodes_there judged_from at refusal (number_is p (Some f) c line rest kept stage is before at e) h))
-
--- behind a front whose lemmas were shown
-pub told_behind : (p : Pesp) (front : Option FrontOf) (c : Content) (line : TreeLine) (rest : List Item) (kept : Kept) (stage : Stage)
-    → stage ≡ stages.Tree → (kept.facts ≡ [] → ⊥) → JudgedAt stage p front c (tree_item line ∷ rest) kept
-    → (walk walk' : Standing) (marks : Marks) (facts : List Fact) (at : ℕ) (found : Option Refusal) (taken' refused' : Kept)
-    → kept.walk ≡ Some walk → kept.front ≡ Some marks → facts ≡ kept.facts → at ≡ kept.line + 1 → are_trees 1 (lines_of c) ≡ true
-    → taken' ≡ record kept { line = kept.line + 1; walk = Some walk' } → refused'.answer ≡ kept.answer → refused'.lemma ≡ kept.lemma
-    → IsLineVerdictFrom marks facts (net_of p) c.cycles (cost_goal (net_of p) (least_of c.answer)) (line_of line) walk.nodes walk'.nodes at found
-    → MatchOption found (JudgedAt stage p front c rest taken') (λ refusal. JudgedAt (stages.Refused refusal) p front c rest refused')
-told_behind p None c line rest kept stage is some before walk walk' marks facts at found taken' refused' w m fs e whole new a gone v =
-    absurd (some (facts_is p None c line rest kept stage is before))
-told_behind p (Some f) c line rest kept stage is some before walk walk' marks facts at found taken' refused' w m fs e whole new a gone v =
-    line_told p f c line rest kept stage is before (λ none. some (facts_is p (Some f) c line rest kept stage is before ∙ ap lemmas_of none))
-    walk walk' marks facts at found taken' refused' w m fs e whole new a gone v
-
--- there is a front
-pub never_bare_behind : (p : Pesp) (front : Option FrontOf) (c : Content) (line : TreeLine) (rest : List Item) (kept : Kept) (stage : Stage)
-    → stage ≡ stages.Tree → (kept.facts ≡ [] → ⊥) → JudgedAt stage p front c (tree_item line ∷ rest) kept → kept.front ≡ None → ⊥
-never_bare_behind p None c line rest kept stage is some before e = some (facts_is p None c line rest kept stage is before)
-never_bare_behind p (Some f) c line rest kept stage is some before e =
-    let same : Some f.marks ≡ None = sym (front_is p (Some f) c line rest kept stage is before) ∙ e in cc
+          → IsLineVerdict (claim_of front (net_of p) (least_of c.answer)) (net_of p) c.cycles (line_of line) standing.nodes walk'.nodes at o
+          → MatchOption o (JudgedAt stage p front c rest taken') (λ refusal. JudgedAt (stages.Refused refusal) p front c rest refused')
+      match None h = taken walk' taken' new h.1
+          (judged_more c.tree k line next.1.within read (claim_of front (net_of p) (least_of c.answer)) (net_of p) c.cycles
+          (root (net_of p) c.cycles) (own_line front (4 + length c.times + length c.cycles)) standing.nodes tree.judged walk'.nodes h.0 h.1)
+      match (Some refusal) h = refused refusal refused' a gone
+          (tree_refused p c refusal front tree.lemmas tree.shown.period tree.shown.shows tree.walks whole tree.closed
+          (fault_here c.tree k line next.1.within read (claim_of front (net_of p) (least_of c.answer)) (net_of p) c.cycles
+          (root (net_of p) c.cycles) (own_line front (4 + length c.times + length c.cycles)) standing.nodes tree.judged at refusal
+          (number_is at e) h))
 
 -- a line of the tree behind a refusal
 pub line_passed : (stage : Stage) (p : Pesp) (front : Option FrontOf) (c : Content) (line : TreeLine) (rest : List Item) (kept kept' : Kept)
@@ -465,33 +335,19 @@ end_answer stages.Tree p front c kept whole h = h.2.shown.answer
 end_answer (stages.Refused r) p front c kept whole h = answered c kept.answer h.answer
 
 tree_valid : (p : Pesp) (front : Option FrontOf) (c : Content) (kept : Kept) (k : ℕ) (standing : Standing) → HasText front c
-    → TreeTo p front c (End ∷ []) kept k standing → IsValidBehind front p c
-tree_valid p None c kept k standing has t =
-    plain_valid p c (whole_text None c has) t.shown.period t.shown.shows t.walks None tt tt
-    (judged_all None (net_of p) c.cycles (least_of c.answer) c.tree (root (net_of p) c.cycles)
-    (own_line None (4 + length c.times + length c.cycles)) standing.nodes k (tree_ended c k t.left) t.whole t.judged)
-tree_valid p (Some f) c kept k standing has t = go f.lemmas refl
-  where
-    marks : AreMarks (arcs_of p) f.marks
-    marks = record { scale = (keeps_front (Some f) c has).scale.0; walks = t.closed }
-
-    go : (ss : List LemmaProof) → ss ≡ f.lemmas → IsValidBehind (Some f) p c
-    go [] e = plain_valid p c (whole_text (Some f) c has) t.shown.period t.shown.shows t.walks (Some f) (sym e) marks
-        (judged_all (Some f.marks) (net_of p) c.cycles (least_of c.answer) c.tree (root (net_of p) c.cycles)
-        (own_line (Some f) (4 + length c.times + length c.cycles)) standing.nodes k (tree_ended c k t.left) t.whole
-        ((to_plain p c (Some f) standing.nodes k (sym e)).0 t.judged))
-    go (s ∷ ss) e = from_valid p c (whole_text (Some f) c has) t.shown.period t.shown.shows t.walks f t.lemmas marks
-        (from_all f.marks (lemmas_of f.lemmas) (net_of p) c.cycles (cost_goal (net_of p) (least_of c.answer)) c.tree (root (net_of p) c.cycles)
-        (own_line (Some f) (4 + length c.times + length c.cycles)) standing.nodes k (tree_ended c k t.left) t.whole
-        ((to_lemmas p c f f.lemmas standing.nodes k (λ none. let bad : s ∷ ss ≡ [] = e ∙ none in cc)).0 t.judged))
+    → TreeTo p front c (End ∷ []) kept k standing → IsValid front p c
+tree_valid p front c kept k standing has t =
+    valid_there front p c (keeps_front front c has) t.lemmas t.shown.period t.shown.shows t.walks t.closed
+    (judged_all (claim_of front (net_of p) (least_of c.answer)) (net_of p) c.cycles c.tree (root (net_of p) c.cycles)
+    (own_line front (4 + length c.times + length c.cycles)) standing.nodes k (tree_ended c k t.left) t.whole t.judged)
 
 pub end_valid : (stage : Stage) (p : Pesp) (front : Option FrontOf) (c : Content) (kept : Kept)
     → (stage ≡ stages.Front) ⊎ ((stage ≡ stages.Cycles) ⊎ (stage ≡ stages.Tree)) → HasText front c
-    → JudgedAt stage p front c (End ∷ []) kept → IsValidBehind front p c
+    → JudgedAt stage p front c (End ∷ []) kept → IsValid front p c
 end_valid stages.Front p front c kept is has h =
-    front_open stages.Front p front c kept (IsValidBehind front p c) refl (whole_text front c has) h
+    front_open stages.Front p front c kept (IsValid front p c) refl (whole_text front c has) h
 end_valid stages.Cycles p front c kept is has h =
-    front_open stages.Cycles p front c kept (IsValidBehind front p c) refl (whole_text front c has) h
+    front_open stages.Cycles p front c kept (IsValid front p c) refl (whole_text front c has) h
 end_valid stages.Tree p front c kept is has h = tree_valid p front c kept h.0 h.1 has h.2
 end_valid (stages.Refused r) p front c kept (inl e) has h = absurd cc
 end_valid (stages.Refused r) p front c kept (inr (inl e)) has h = absurd cc

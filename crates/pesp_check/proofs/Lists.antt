@@ -7,17 +7,18 @@ use Rattle.pesp_problem.specs.declared.pair.Pair.{Pair}
 use Rattle.pesp_problem.specs.declared.cut.Cut.TheVariants.{Slack as SlackCut, Offset as OffsetCut}
 use Rattle.pesp_truth.specs.declared.tree.TreeLine.{TreeLine}
 use Rattle.pesp_truth.specs.declared.tree.TreeLine.TheVariants as lines
-use Rattle.pesp_truth.specs.Certificates.{Content, line_of}
+use Rattle.pesp_truth.specs.Certificates.{Content}
+use Rattle.pesp_truth.specs.Trees.{line_of}
 use Rattle.pesp_cert_lines.specs.declared.item.Item.{Item}
 use Rattle.pesp_cert_lines.specs.declared.item.Item.TheVariants.{Cycle, Slack, Offset, Bound, Nothing, Gap, Propagated, End}
 use Rattle.pesp_cert.specs.Texts.{tree_item}
-use Rattle.pesp_judges.specs.declared.leaf_line.LeafLine.TheVariants.{Bound as BoundLeaf, Nothing as NothingLeaf, Gap as GapLeaf}
+use Rattle.pesp_judges.specs.declared.leaf.LeafLine.TheVariants.{Bound as BoundLeaf, Nothing as NothingLeaf, Gap as GapLeaf}
 use Rattle.pesp_judges.specs.declared.tree.SaidLine.{SaidLine}
 use Rattle.pesp_judges.specs.declared.tree.SaidLine.TheVariants.{Branch, Leaf, Propagated as PropagatedLine}
 use Rattle.pesp_judges.specs.SaidLines.{line_said}
 use Rattle.std.specs.Prelude.{Option, Some, None, is_some, option_map, false}
-use Rattle.pesp_lemma_judges.specs.declared.lemma_judge.LemmaJudge.{LemmaJudge}
-use Rattle.pesp_lemma_judges.specs.Showing.{kept as kept_lemma}
+use Rattle.pesp_judges.specs.declared.lemma_judge.LemmaJudge.{LemmaJudge}
+use Rattle.pesp_judges.specs.Showing.{kept_of_lemma as kept_lemma}
 use Rattle.pesp_check.specs.Items.{is_later, is_line}
 use Rattle.pesp_check.specs.Said.{tree_line}
 use Rattle.pesp_check.specs.Judging.{tree_from, cycles_from}

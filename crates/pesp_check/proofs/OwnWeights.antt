@@ -7,9 +7,9 @@ use Rattle.pesp_problem.specs.declared.arc.Arc.{Arc}
 use Rattle.pesp_problem.specs.Timetables.{Pesp, no_row, row_at}
 use Rattle.pesp_problem.specs.Limits.{KeepsLimits}
 use Rattle.pesp_problem.specs.Arcs.{arcs_of, arc_at}
-use Rattle.pesp_nets.specs.Terms.{number_at}
+use Rattle.pesp_problem.specs.Terms.{number_at}
 use Rattle.pesp_leaves.proofs.Arcs.{arc_is}
-use Rattle.pesp_lemma_leaves.specs.Taken.{AreSmallWeights}
+use Rattle.pesp_leaves.specs.Taken.{AreSmallWeights}
 
 abbrev pub weights_of : List Row → List ℤ
 weights_of rows = map (λ row. pos row.weight) rows

@@ -4,20 +4,19 @@ use Rattle.std.specs.List.{list_all, flat_map}
 use Rattle.std.proofs.lemmas.List.Concat.{flat_map-cons}
 use Rattle.pesp_problem.specs.declared.row.SignedRow.{SignedRow}
 use Rattle.pesp_problem.specs.Timetables.{Pesp}
-use Rattle.pesp_nets.specs.declared.marked.MarkedRow.{MarkedRow}
+use Rattle.pesp_problem.specs.declared.marked.MarkedRow.{MarkedRow}
 use Rattle.pesp_truth.specs.declared.answer.Answer.{Answer}
 use Rattle.pesp_truth.specs.declared.tree.TreeLine.{TreeLine}
 use Rattle.pesp_truth.specs.declared.tree.TreeLine.TheVariants as lines
-use Rattle.pesp_truth.specs.Certificates.{Content}
+use Rattle.pesp_truth.specs.Certificates.{Content, Front as FrontOf}
 use Rattle.pesp_cert_lines.specs.declared.item.Item.{Item}
 use Rattle.pesp_cert_lines.specs.declared.item.Item.TheVariants.{Scale, Walk, Least, Version, Period, Answer as Says, Cycle, End}
 use Rattle.pesp_cert_lines.proofs.Tests.{and_left, and_right, and_both}
 use Rattle.pesp_cert.specs.Texts.{time_item, tree_item, marks_items, lemma_items}
-use Rattle.pesp_lemma.specs.Lemmas.{Lemma as Fact}
-use Rattle.pesp_lemma.specs.Shown.{LemmaProof}
-use Rattle.pesp_lemma.specs.Fronts.{Front as FrontOf}
+use Rattle.pesp_truth.specs.Lemmas.{Lemma as Fact}
+use Rattle.pesp_truth.specs.Shown.{LemmaProof}
 use Rattle.pesp_judges.specs.declared.refusal.Refusal.{Refusal}
-use Rattle.pesp_lemma_judges.specs.Showing.{KeptLemma}
+use Rattle.pesp_judges.specs.Showing.{KeptLemma}
 use Rattle.pesp_check.specs.Items.{says_no_answer}
 use Rattle.pesp_check.specs.declared.stage.Stage.TheVariants as stages
 use Rattle.pesp_check.specs.Judging.{Kept, AnswerIsLeft, tree_from, cycles_from, times_from, behind, lemmas_from, lemma_tree_from, lemma_cycles_from, lemma_walks_from, LemmaTo, JudgedAt}

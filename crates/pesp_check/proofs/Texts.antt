@@ -6,8 +6,7 @@ use Rattle.pesp_stream.specs.Counts.{Calls, Worked, Failed}
 use Rattle.pesp_problem.specs.Timetables.{Pesp}
 use Rattle.pesp_truth.specs.declared.answer.Answer.{Answer}
 use Rattle.pesp_truth.specs.Truth.{IsTrueAnswer}
-use Rattle.pesp_lemma.specs.Fronts.{Front as FrontOf, IsValidBehind}
-use Rattle.pesp_truth.specs.Certificates.{Content, shown_times}
+use Rattle.pesp_truth.specs.Certificates.{Front as FrontOf, IsValid, Content, shown_times}
 use Rattle.pesp_cert_lines.specs.declared.item.Item.{Item}
 use Rattle.pesp_cert_lines.specs.declared.item.Item.TheVariants.{Version, Period, Answer as Says, Cycle, End}
 use Rattle.pesp_cert.specs.declared.refusal.CertRefusal.{CertRefusal}
@@ -18,13 +17,13 @@ use Rattle.pesp_cert.proofs.Runs.{items_shape}
 use Rattle.pesp_cert.proofs.TextLaws.{text_found_of}
 use Rattle.pesp_cert_items.specs.declared.fault.ItemFault.{ItemFault}
 use Rattle.pesp_cert_items.specs.declared.fault.ItemFault.TheVariants as items
-use Rattle.pesp_cert_items.specs.Readings.{Reading, is_open, Gives, Blamed, Refuses}
+use Rattle.pesp_cert_items.specs.Readings.{Reading, is_going, GivesItem, Blamed, RefusesReading}
 use Rattle.pesp_cert_items.specs.Texts.{RefusesText}
 use Rattle.pesp_cert_items.proofs.Running.{Runs, runs_none, runs_more, runs_all, runs_refused}
 use Rattle.pesp_cert_items.proofs.Telling.{at_first, ran_text, refused_text}
 use Rattle.pesp_judges.specs.declared.refusal.Verdict.{Verdict}
-use Rattle.pesp_lemma_judges.specs.Faults.{IsVerdictBehind}
-use Rattle.pesp_lemma_judges.proofs.Faults.{accepts_behind}
+use Rattle.pesp_judges.specs.Faults.{IsVerdict}
+use Rattle.pesp_judges.proofs.Faults.{accepts_valid}
 use Rattle.pesp_check.specs.declared.stage.Stage.{Stage}
 use Rattle.pesp_check.specs.declared.fault.CheckFault.TheVariants.{Read}
 use Rattle.pesp_check.specs.CheckFaults.{fault_of}
@@ -37,9 +36,9 @@ pub record IsCheckedTo (p : Pesp) (old now : Reading) (stage : Stage) (kept : Ke
   pub runs : Runs old now so_far
   pub judged : (front : Option FrontOf) (c : Content) (rest : List Item) → HasText front c → items_left front c ≡ so_far ++ rest
       → JudgedAt stage p front c rest kept
-  pub going : is_open now.stage ≡ true
+  pub going : is_going now.stage ≡ true
 
-pub checked_none : (p : Pesp) (r : Reading) (stage : Stage) (kept : Kept) → is_open r.stage ≡ true
+pub checked_none : (p : Pesp) (r : Reading) (stage : Stage) (kept : Kept) → is_going r.stage ≡ true
     → ((front : Option FrontOf) (c : Content) → JudgedAt stage p front c (items_left front c) kept) → IsCheckedTo p r r stage kept
 checked_none p r stage kept o h = record {
   so_far = [];
@@ -49,7 +48,7 @@ checked_none p r stage kept o h = record {
 }
 
 pub checked_more : (p : Pesp) (a b c : Reading) (stage stage' : Stage) (kept kept' : Kept) (item : Item)
-    → IsCheckedTo p a b stage kept → Gives b c (Ok (Some item))
+    → IsCheckedTo p a b stage kept → GivesItem b c (Ok (Some item))
     → ((front : Option FrontOf) (c : Content) (rest : List Item) → HasText front c → JudgedAt stage p front c (item ∷ rest) kept
     → JudgedAt stage' p front c rest kept') → IsCheckedTo p a c stage' kept'
 checked_more p a b c stage stage' kept kept' item h g step = record {
@@ -57,7 +56,7 @@ checked_more p a b c stage stage' kept kept' item h g step = record {
   runs = runs_more a b c h.so_far item h.runs g.2;
   judged = λ front c rest has e. step front c rest has
       (h.judged front c (item ∷ rest) has (e ∙ append_assoc h.so_far (item ∷ []) rest));
-  going = ap is_open g.0;
+  going = ap is_going g.0;
 }
 
 -- ---- the end
@@ -68,10 +67,10 @@ all_left front c = ap (λ is. front_items front ++ Version c.version ∷ Period 
 
 pub checked_all : (versions : Versions) (p : Pesp) (told : Option (List ℕ)) (b c : Reading) (stage : Stage) (kept : Kept)
     (verdict : Verdict) (answer : Answer) → IsCheckedTo p (at_first versions told 1073741824) b stage kept
-    → Gives b c (Ok None)
-    → ((front : Option FrontOf) (c : Content) → HasText front c → JudgedAt stage p front c (End ∷ []) kept → IsVerdictBehind front p c verdict)
+    → GivesItem b c (Ok None)
+    → ((front : Option FrontOf) (c : Content) → HasText front c → JudgedAt stage p front c (End ∷ []) kept → IsVerdict front p c verdict)
     → ((front : Option FrontOf) (c : Content) → HasText front c → JudgedAt stage p front c (End ∷ []) kept → answer ≡ c.answer)
-    → ((front : Option FrontOf) (c : Content) → IsValidBehind front p c → IsTrueAnswer p c.answer (shown_times c))
+    → ((front : Option FrontOf) (c : Content) → IsValid front p c → IsTrueAnswer p c.answer (shown_times c))
     → ChecksText versions told c.told p verdict answer
 checked_all versions p told b c stage kept verdict answer h g says is true_then =
     let ran = runs_all (at_first versions told 1073741824) b c h.so_far h.runs g.1 in
@@ -92,9 +91,9 @@ checked_all versions p told b c stage kept verdict answer h g says is true_then 
       spelt = found.3;
       answer_is = same;
       said = said;
-      exactly = accepts_behind front p content verdict said;
+      exactly = accepts_valid front p content verdict said;
       truth = λ e. subst (λ (a : Answer). IsTrueAnswer p a (shown_times content)) (sym same)
-          (true_then front content ((accepts_behind front p content verdict said).0 e));
+          (true_then front content ((accepts_valid front p content verdict said).0 e));
     }
 
 -- ---- a fault
@@ -118,12 +117,12 @@ text_faults versions told told' failed (refusals.Trailing n) (inr f) = f
 
 pub checked_fault : (versions : Versions) (p : Pesp) (told : Option (List ℕ)) (b c : Reading) (stage : Stage) (kept : Kept)
     (f : ItemFault) (old : Calls) (most : ℕ) (new : Calls) → IsCheckedTo p (at_first versions told 1073741824) b stage kept
-    → Gives b c (Err f) → Blamed f old most new
+    → GivesItem b c (Err f) → Blamed f old most new
     → Faults versions (fault_of f) told c.told (Failed old most new)
 checked_fault versions p told b c stage kept items.Read old most new h g blamed = blamed
 checked_fault versions p told b c stage kept (items.Text r) old most new h g blamed = text_faults versions told c.told (Failed old most new) r (refused g.1)
   where
-    refused : (r ≡ refusals.Memory) ⊎ Refuses b c r → (r ≡ refusals.Memory) ⊎ RefusesText versions told c.told 1073741824 r
+    refused : (r ≡ refusals.Memory) ⊎ RefusesReading b c r → (r ≡ refusals.Memory) ⊎ RefusesText versions told c.told 1073741824 r
     refused (inl e) = inl e
     refused (inr q) = inr (refused_text versions told 1073741824 c r (runs_refused (at_first versions told 1073741824) b c h.so_far r h.runs q))
 

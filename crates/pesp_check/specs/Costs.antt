@@ -1,17 +1,16 @@
--- What the lines of a tree show whose leaves may name marked walks and lemmas, each at the first of the nodes that wait.
+-- What the lines of a valid certificate's tree show, each at the first of the nodes that wait.
 use Rattle.std.specs.Prelude.{ℕ, List, [], ◌∷◌, ℤ, pos, negsuc, min, Option, Some, None, option_map}
 use Rattle.pesp_problem.specs.declared.row.SignedRow.{SignedRow}
 use Rattle.pesp_problem.specs.Timetables.{Pesp}
-use Rattle.pesp_problem.specs.Arcs.{Net, arc_at, net_of}
+use Rattle.pesp_problem.specs.Arcs.{Net, net_of}
 use Rattle.pesp_problem.specs.Nodes.{Node, root}
-use Rattle.pesp_truth.specs.Trees.{Leaf, Bound, Shut, Line, EndLine, CutLine}
-use Rattle.pesp_truth.specs.Certificates.{lines_of}
+use Rattle.pesp_truth.specs.Lemmas.{Lemma}
+use Rattle.pesp_truth.specs.Shown.{lemmas_of}
+use Rattle.pesp_truth.specs.Trees.{Leaf, Bound, Shut, Line, EndLine, CutLine, Claim, bound_by}
+use Rattle.pesp_truth.specs.Certificates.{Front, claim_of, least_of, lines_of}
+use Rattle.pesp_leaves.specs.declared.checker.Claim.{Claim as ToldClaim}
+use Rattle.pesp_leaves.specs.Claims.{NamesTold}
 use Rattle.pesp_judges.specs.Lines.{after, CutIsNamed}
-use Rattle.pesp_truth.specs.Marks.{Marks, AreNamed}
-use Rattle.pesp_lemma.specs.Lemmas.{Lemma}
-use Rattle.pesp_lemma.specs.Trees.{bound_by}
-use Rattle.pesp_lemma.specs.Shown.{lemmas_of}
-use Rattle.pesp_lemma.specs.Fronts.{Front}
 use Rattle.pesp_cert.specs.Fronted.{Fronted}
 
 -- a cost as it is told: 0 where it is below that, and at most 999999999999999999
@@ -19,50 +18,41 @@ abbrev pub told : ℤ → ℕ
 told (pos n) = min n 999999999999999999
 told (negsuc n) = 0
 
--- what a leaf shows at a node: a bound leaf its value by its scale, rounded up to a whole cost; none every other leaf
-abbrev pub shown_at : Net → List (List SignedRow) → Marks → List Lemma → Leaf → Node → Option ℕ
-shown_at n table marks facts (Bound pairs) node =
-    option_map told (bound_by marks facts n table node pairs (λ i. pos (arc_at n.arcs i).weight))
-shown_at n table marks facts (Shut reason) node = None
+-- what a leaf shows at a node: a bound leaf what its pairs bound, in whole costs; none every other leaf
+abbrev pub shown_at : Claim → Net → List (List SignedRow) → Leaf → Node → Option ℕ
+shown_at claim n table (Bound pairs) node = option_map told (bound_by claim n table node pairs)
+shown_at claim n table (Shut reason) node = None
 
 -- a branch shows nothing
-abbrev pub line_shows : Net → List (List SignedRow) → Marks → List Lemma → Line → Node → Option ℕ
-line_shows n table marks facts (EndLine leaf) node = shown_at n table marks facts leaf node
-line_shows n table marks facts (CutLine cut) node = None
+abbrev pub line_shows : Claim → Net → List (List SignedRow) → Line → Node → Option ℕ
+line_shows claim n table (EndLine leaf) node = shown_at claim n table leaf node
+line_shows claim n table (CutLine cut) node = None
 
 -- what lines show
-abbrev pub shown_in : Net → List (List SignedRow) → Marks → List Lemma → List Line → List Node → List (Option ℕ)
-shown_in n table marks facts [] nodes = []
-shown_in n table marks facts (line ∷ lines) [] = []
-shown_in n table marks facts (line ∷ lines) (node ∷ nodes) =
-    line_shows n table marks facts line node ∷ shown_in n table marks facts lines (after line (node ∷ nodes))
+abbrev pub shown_in : Claim → Net → List (List SignedRow) → List Line → List Node → List (Option ℕ)
+shown_in claim n table [] nodes = []
+shown_in claim n table (line ∷ lines) [] = []
+shown_in claim n table (line ∷ lines) (node ∷ nodes) =
+    line_shows claim n table line node ∷ shown_in claim n table lines (after line (node ∷ nodes))
 
--- without a front no walk is marked
-abbrev pub no_marks : Marks
-no_marks = record { scale = 1; walks = [] }
+-- what the lines of a certificate show
+abbrev pub shown_of : Pesp → Fronted → List (Option ℕ)
+shown_of p c = shown_in (claim_of c.front (net_of p) (least_of c.content.answer)) (net_of p) c.content.cycles (lines_of c.content)
+    (root (net_of p) c.content.cycles ∷ [])
 
--- the scale and the marked walks of a front; where there is no front, no walk is marked
-abbrev pub marks_of : Option Front → Marks
-marks_of None = no_marks
-marks_of (Some f) = f.marks
-
--- nor is there a lemma
+-- the lemmas of a front, none where there is none
 abbrev pub facts_said : Option Front → List Lemma
 facts_said None = []
 facts_said (Some f) = lemmas_of f.lemmas
 
--- what the lines of a certificate show
-abbrev pub shown_of : Pesp → Fronted → List (Option ℕ)
-shown_of p c = shown_in (net_of p) c.content.cycles (marks_of c.front) (facts_said c.front) (lines_of c.content) (root (net_of p) c.content.cycles ∷ [])
-
 -- ---- what lines name
 
--- the pairs of a bound leaf name cycles, or marked walks under multipliers above 0
-abbrev pub LeafIsNamed : ℕ → ℕ → Leaf → Type 0
-LeafIsNamed cycles walks (Bound pairs) = AreNamed cycles walks pairs
-LeafIsNamed cycles walks (Shut reason) = Unit {0}
+-- the pairs of a bound leaf name what is told
+abbrev pub LeafIsNamed : ToldClaim → ℕ → Leaf → Type 0
+LeafIsNamed told cycles (Bound pairs) = NamesTold told cycles pairs
+LeafIsNamed told cycles (Shut reason) = Unit {0}
 
 -- so do those of a line, and what a branch cuts is there
-abbrev pub LineIsNamed : ℕ → ℕ → ℕ → Line → Type 0
-LineIsNamed rows cycles walks (EndLine leaf) = LeafIsNamed cycles walks leaf
-LineIsNamed rows cycles walks (CutLine cut) = CutIsNamed rows cycles cut
+abbrev pub LineIsNamed : ToldClaim → ℕ → ℕ → Line → Type 0
+LineIsNamed told rows cycles (EndLine leaf) = LeafIsNamed told cycles leaf
+LineIsNamed told rows cycles (CutLine cut) = CutIsNamed rows cycles cut

@@ -6,7 +6,7 @@ use Rattle.pesp_cert_lines.specs.declared.item.Item.TheVariants.{Front, Scale, W
 use Rattle.pesp_cert_items.specs.declared.text_line.TextLine.{TextLine}
 use Rattle.pesp_cert_items.specs.declared.text_line.TextLine.TheVariants as texts
 use Rattle.pesp_leaves.specs.Flows.{ArePairLimits}
-use Rattle.pesp_lemma.specs.Limits.{keeps_limits}
+use Rattle.pesp_truth.specs.Limits.{weights_keep_limits}
 
 -- it comes behind the times
 abbrev pub is_later : Item → Bool
@@ -68,7 +68,7 @@ begins_tree (item ∷ items) = is_line item
 
 -- what the limits of a text say of one item
 abbrev pub KeepsItemLimits : Item → Type 0
-KeepsItemLimits (Lemma ps) = keeps_limits ps ≡ true
+KeepsItemLimits (Lemma ps) = weights_keep_limits ps ≡ true
 KeepsItemLimits (Cycle rows) = length rows ≤ MOST_SIGNED_ROWS
 KeepsItemLimits (Slack row k) = k ≤ MOST_SLACK
 KeepsItemLimits (Offset cycle k) = unsigned_abs k ≤ MOST_OFFSET

@@ -5,29 +5,25 @@ use Rattle.pesp_problem.specs.Timetables.{Pesp}
 use Rattle.pesp_problem.specs.Arcs.{arcs_of, net_of}
 use Rattle.pesp_problem.specs.Walks.{IsWalk}
 use Rattle.pesp_problem.specs.Nodes.{Node, root, cycle_at}
-use Rattle.pesp_nets.specs.Marked.{IsMarkedWalk}
-use Rattle.pesp_nets.specs.declared.marked.MarkedRow.{MarkedRow}
+use Rattle.pesp_problem.specs.Marked.{IsMarkedWalk}
+use Rattle.pesp_problem.specs.declared.marked.MarkedRow.{MarkedRow}
 use Rattle.pesp_truth.specs.Marks.{Marks}
-use Rattle.pesp_lemma.specs.Lemmas.{Lemma}
-use Rattle.pesp_lemma.specs.Trees.{cost_goal}
-use Rattle.pesp_lemma.specs.Shown.{LemmaProof, AreShownFrom, lemmas_of}
-use Rattle.pesp_lemma.specs.Fronts.{Front as FrontOf, lemma_lines, front_lines}
-use Rattle.pesp_lemma_judges.specs.Lines.{AreJudgedFrom}
-use Rattle.pesp_lemma_judges.specs.Faults.{IsFirstFaultBehind}
-use Rattle.pesp_lemma_judges.specs.Showing.{KeptLemma, HeadShown, CyclesShown, ShownTo}
+use Rattle.pesp_truth.specs.Lemmas.{Lemma}
+use Rattle.pesp_truth.specs.Trees.{are_trees, line_of}
+use Rattle.pesp_truth.specs.Shown.{LemmaProof, lemmas_of, lemma_lines, AreShownLemmas}
+use Rattle.pesp_truth.specs.Certificates.{Front as FrontOf, claim_of, Content, least_of, shown_labels, shown_times, ShowsAnswer}
+use Rattle.pesp_judges.specs.Lines.{AreJudged}
+use Rattle.pesp_judges.specs.Faults.{IsFirstFault, IsAnswerFault, own_line}
+use Rattle.pesp_judges.specs.Showing.{KeptLemma, HeadShown, CyclesShown, ShownTo}
 use Rattle.pesp_truth.specs.declared.answer.Answer.{Answer}
-use Rattle.pesp_truth.specs.Trees.{are_trees}
-use Rattle.pesp_truth.specs.Certificates.{Content, line_of, least_of, shown_labels, shown_times, ShowsAnswer}
 use Rattle.pesp_cert_lines.specs.declared.item.Item.{Item}
 use Rattle.pesp_cert_lines.specs.declared.item.Item.TheVariants.{Front, Scale, Walk, Least, Version, Period, Answer as Says, Cycle, End}
 use Rattle.pesp_cert.specs.Texts.{time_item, tree_item, lemma_items, front_items}
-use Rattle.pesp_nets.specs.declared.nets.NetCount.{NetCount}
+use Rattle.pesp_problem.specs.declared.nets.NetCount.{NetCount}
 use Rattle.pesp_judges.specs.declared.refusal.Refusal.{Refusal}
 use Rattle.pesp_judges.specs.declared.refusal.Refusal.TheVariants.{OtherPeriod}
 use Rattle.pesp_judges.specs.Pending.{Standing}
-use Rattle.pesp_nets.specs.Nets.{AreNets}
-use Rattle.pesp_judges.specs.Faults.{IsAnswerFault}
-use Rattle.pesp_judges.specs.Lines.{AreJudged}
+use Rattle.pesp_problem.specs.Nets.{AreNets}
 use Rattle.pesp_check.specs.Costs.{facts_said}
 use Rattle.pesp_check.specs.Items.{says_no_answer}
 use Rattle.pesp_check.specs.declared.stage.Stage.{Stage}
@@ -116,11 +112,6 @@ walks_from f c k = map Walk (drop k f.marks.walks) ++ lemmas_from f c 0
 abbrev pub items_left : Option FrontOf → Content → List Item
 items_left front c = front_items front ++ behind c
 
--- the number in the whole text of a line of the certificate's own
-abbrev pub own_line : Option FrontOf → ℕ → ℕ
-own_line None line = line
-own_line (Some f) line = front_lines f + line
-
 -- the items of a lemma behind the first k lines of its tree, and those behind the lemma
 abbrev pub lemma_tree_from : LemmaProof → List Item → ℕ → List Item
 lemma_tree_from s more k = map tree_item (drop k s.tree) ++ more
@@ -169,8 +160,8 @@ LemmaTo p earlier s at kept line rest more =
 -- ---- what they say
 
 -- what is wrong with the period, or with the answer and the times
-abbrev pub IsFrontFault : Pesp → ℕ → Answer → List ℤ → List ℕ → Refusal → Type 0
-IsFrontFault p period answer labels times refusal =
+abbrev pub IsHeadFault : Pesp → ℕ → Answer → List ℤ → List ℕ → Refusal → Type 0
+IsHeadFault p period answer labels times refusal =
     ((refusal ≡ OtherPeriod) × (period ≡ p.period → ⊥)) ⊎ ((period ≡ p.period) × IsAnswerFault p answer labels times refusal)
 
 -- the scale of a front and k of its marked walks came
@@ -184,7 +175,7 @@ pub record WalksTo (f : FrontOf) (c : Content) (rest : List Item) (kept : Kept) 
 pub record LemmasShown (p : Pesp) (f : FrontOf) (kept : Kept) (j : ℕ) : Type 0 where
   pub within : j ≤ length f.lemmas
   pub said : marks_said kept.draft ≡ Some f.marks
-  pub shown : AreShownFrom (net_of p) [] (take j f.lemmas)
+  pub shown : AreShownLemmas (net_of p) [] (take j f.lemmas)
   pub facts : kept.facts ≡ lemmas_of (take j f.lemmas)
 
 -- the line before the lemma behind j others
@@ -245,14 +236,14 @@ FrontTo p front c rest kept =
     ((kept.times ≡ []) × MarksTo p front c rest kept) ⊎ (FrontCame p front kept × HeadTo front c rest kept)
 
 -- the period is the instance's, and the answer shows what it has to
-pub record IsShown (p : Pesp) (c : Content) (kept : Kept) : Type 0 where
+pub record FrontIsShown (p : Pesp) (c : Content) (kept : Kept) : Type 0 where
   pub period : c.period ≡ p.period
   pub answer : kept.answer ≡ c.answer
   pub shows : ShowsAnswer p c.answer (shown_labels c) (shown_times c)
 
 -- k cycles came, and they are walks
 pub record CyclesTo (p : Pesp) (front : Option FrontOf) (c : Content) (rest : List Item) (kept : Kept) (k : ℕ) : Type 0 where
-  pub shown : IsShown p c kept
+  pub shown : FrontIsShown p c kept
   pub front_came : FrontCame p front kept
   pub within : k ≤ length c.cycles
   pub nets : AreNets (length p.rows) (take k c.cycles) kept.table
@@ -260,27 +251,18 @@ pub record CyclesTo (p : Pesp) (front : Option FrontOf) (c : Content) (rest : Li
   pub line : kept.line ≡ own_line front (3 + length c.times + k)
   pub left : rest ≡ cycles_from c k
 
--- without lemmas as ever
-abbrev pub IsJudgedFront : FrontOf → List LemmaProof → Pesp → Content → List Node → ℕ → Type 0
-IsJudgedFront f [] p c nodes k = AreJudged (Some f.marks) (net_of p) c.cycles (least_of c.answer) c.tree (root (net_of p) c.cycles)
-    (own_line (Some f) (4 + length c.times + length c.cycles)) nodes k
-IsJudgedFront f (s ∷ shown) p c nodes k = AreJudgedFrom f.marks (lemmas_of f.lemmas) (net_of p) c.cycles
-    (cost_goal (net_of p) (least_of c.answer)) c.tree (root (net_of p) c.cycles)
-    (own_line (Some f) (4 + length c.times + length c.cycles)) nodes k
-
 -- k lines of the tree came, and each is sound at its node: what those that are left say decides of all
 abbrev pub AreJudgedBehind : Pesp → Option FrontOf → Content → List Node → ℕ → Type 0
-AreJudgedBehind p None c nodes k = AreJudged None (net_of p) c.cycles (least_of c.answer) c.tree (root (net_of p) c.cycles)
-    (own_line None (4 + length c.times + length c.cycles)) nodes k
-AreJudgedBehind p (Some f) c nodes k = IsJudgedFront f f.lemmas p c nodes k
+AreJudgedBehind p front c nodes k = AreJudged (claim_of front (net_of p) (least_of c.answer)) (net_of p) c.cycles c.tree
+    (root (net_of p) c.cycles) (own_line front (4 + length c.times + length c.cycles)) nodes k
 
 -- the marked walks are closed, k lines of the tree came, and each is sound at its node
 pub record TreeTo (p : Pesp) (front : Option FrontOf) (c : Content) (rest : List Item) (kept : Kept) (k : ℕ) (standing : Standing) : Type 0 where
   pub gone : kept.lemma ≡ None
-  pub shown : IsShown p c kept
+  pub shown : FrontIsShown p c kept
   pub front_is : kept.front ≡ option_map (λ f. f.marks) front
   pub facts : kept.facts ≡ facts_said front
-  pub lemmas : IfSome front (λ f. AreShownFrom (net_of p) [] f.lemmas)
+  pub lemmas : IfSome front (λ f. AreShownLemmas (net_of p) [] f.lemmas)
   pub walks : All (IsWalk (arcs_of p)) c.cycles
   pub nets : AreNets (length p.rows) c.cycles kept.table
   pub closed : IfSome front (λ f. All (IsMarkedWalk (arcs_of p)) f.marks.walks)
@@ -294,7 +276,7 @@ pub record TreeTo (p : Pesp) (front : Option FrontOf) (c : Content) (rest : List
 pub record RefusedTo (p : Pesp) (front : Option FrontOf) (c : Content) (rest : List Item) (kept : Kept) (refusal : Refusal) : Type 0 where
   pub none : kept.lemma ≡ None
   pub answer : ((kept.answer ≡ c.answer) × (list_all says_no_answer rest ≡ true)) ⊎ AnswerIsLeft c rest
-  pub first : IsFirstFaultBehind front p c refusal
+  pub first : IsFirstFault front p c refusal
 
 -- by the stage: which items came, what they showed so far, and which are left; or the first fault
 abbrev pub JudgedAt : Stage → Pesp → Option FrontOf → Content → List Item → Kept → Type 0

@@ -6,3 +6,4 @@ pub mod Views
 pub mod Said
 pub mod Inner
 pub mod Costs
+pub mod Rooms

@@ -4,15 +4,15 @@ use Rattle.pesp_problem.specs.declared.pair.Pair.{Pair}
 use Rattle.pesp_problem.specs.declared.cut.Cut.TheVariants.{Slack, Offset}
 use Rattle.pesp_truth.specs.declared.tree.TreeLine.{TreeLine}
 use Rattle.pesp_truth.specs.declared.tree.TreeLine.TheVariants as lines
-use Rattle.pesp_cert_items.specs.Lent.{pairs_in}
-use Rattle.pesp_judges.specs.declared.leaf_line.LeafLine.TheVariants.{Bound, Nothing, Gap}
+use Rattle.pesp_cert_items.specs.Lent.{pairs_left_in}
+use Rattle.pesp_judges.specs.declared.leaf.LeafLine.TheVariants.{Bound, Nothing, Gap}
 use Rattle.pesp_judges.specs.declared.tree.SaidLine.{SaidLine}
 use Rattle.pesp_judges.specs.declared.tree.SaidLine.TheVariants.{Branch, Leaf, Propagated}
 use Rattle.pesp_check.specs.declared.elements.PairsLeft.{PairsLeft}
 
 -- the pairs that are still to come
 abbrev pub pairs_of : PairsLeft → List Pair
-pairs_of pairs = pairs_in pairs.0
+pairs_of pairs = pairs_left_in pairs.0
 
 -- the line of the tree, with its pairs as a list
 abbrev pub tree_line : {P : Type 0} → (P → List Pair) → SaidLine P → TreeLine

@@ -5,15 +5,14 @@ use Rattle.pesp_stream.specs.Reading.{ReadsText}
 use Rattle.pesp_problem.specs.Timetables.{Pesp}
 use Rattle.pesp_cert_lines.specs.declared.versions.Versions.{Versions}
 use Rattle.pesp_truth.specs.declared.answer.Answer.{Answer}
-use Rattle.pesp_lemma.specs.Fronts.{Front, IsValidBehind}
+use Rattle.pesp_truth.specs.Certificates.{Front, IsValid, Content, shown_times}
 use Rattle.pesp_truth.specs.Truth.{IsTrueAnswer}
-use Rattle.pesp_truth.specs.Certificates.{Content, shown_times}
 use Rattle.pesp_cert.specs.Texts.{takes}
 use Rattle.pesp_cert.specs.Refusals.{IsTextOf}
 use Rattle.pesp_cert_items.specs.Texts.{RefusesText}
 use Rattle.pesp_judges.specs.declared.refusal.Verdict.{Verdict}
 use Rattle.pesp_judges.specs.declared.refusal.Verdict.TheVariants.{Accepted}
-use Rattle.pesp_lemma_judges.specs.Faults.{IsVerdictBehind}
+use Rattle.pesp_judges.specs.Faults.{IsVerdict}
 use Rattle.pesp_check.specs.declared.fault.CheckFault.{CheckFault}
 use Rattle.pesp_check.specs.declared.fault.CheckFault.TheVariants.{Text, Read, Memory}
 
@@ -27,8 +26,8 @@ pub record ChecksText (versions : Versions) (told told' : Option (List ℕ)) (p 
   pub taken : takes versions front ≡ true
   pub spelt : IsTextOf front text content
   pub answer_is : answer ≡ content.answer
-  pub said : IsVerdictBehind front p content verdict
-  pub exactly : (verdict ≡ Accepted) ↔ IsValidBehind front p content
+  pub said : IsVerdict front p content verdict
+  pub exactly : (verdict ≡ Accepted) ↔ IsValid front p content
   pub truth : verdict ≡ Accepted → IsTrueAnswer p answer (shown_times content)
 
 -- a text is refused by its first fault, whatever stands behind what was read of it; a device is blamed only where it failed

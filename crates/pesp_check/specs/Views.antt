@@ -1,7 +1,7 @@
 -- A judge as what it keeps.
 use Rattle.pesp_check.specs.declared.judge.Judge.{Judge}
 use Rattle.std.specs.Prelude.{option_map}
-use Rattle.pesp_lemma_judges.specs.Showing.{kept as kept_lemma}
+use Rattle.pesp_judges.specs.Showing.{kept_of_lemma as kept_lemma}
 use Rattle.pesp_check.specs.Judging.{Kept}
 
 -- what a judge keeps of the items that came

@@ -1,6 +1,6 @@
 //! The list of a line, read from the line as often as is asked.
 
-ghost use Rattle.pesp_cert_items.specs.Lent.{pairs_in, rows_in};
+ghost use Rattle.pesp_cert_items.specs.Lent.{pairs_left_in, rows_in};
 
 use pesp_cert_items::{LinePairs, SignedRows};
 use pesp_judges::Elements;
@@ -11,7 +11,7 @@ use pesp_problem::{Pair, SignedRow};
 pub struct PairsLeft<'a>(pub LinePairs<'a>);
 
 impl<'a> Elements<Pair> for PairsLeft<'a> {
-    ghost elements = { λ pairs. pairs_in pairs.0 };
+    ghost elements = { λ pairs. pairs_left_in pairs.0 };
 
     #[inline]
     fn take_next(&mut self) -> Option<Pair> {

@@ -1,19 +1,18 @@
 //! The front of a text, and what its marked walks ask for.
 
-ghost use Rattle.std.specs.Prelude.{◌≡◌, ◌≤◌, length, All, IfOk, IfSome, OnOk, MatchOption};
+ghost use Rattle.std.specs.Prelude.{◌≡◌, ◌≤◌, length, All, IfOk, IfSome, IsSomeAnd, OnOk, MatchOption};
 ghost use Rattle.pesp_problem.specs.declared.limits.TheConstants.{MOST_CYCLES};
 ghost use Rattle.pesp_problem.specs.Arcs as instances;
-ghost use Rattle.pesp_nets.specs.Nets.{AreZeros};
-ghost use Rattle.pesp_nets.specs.Marked.{IsMarkedWalk};
-ghost use Rattle.pesp_truth.specs.FrontLimits.{KeepsLimits};
+ghost use Rattle.pesp_problem.specs.Nets.{AreZeros};
+ghost use Rattle.pesp_problem.specs.Marked.{IsMarkedWalk};
+ghost use Rattle.pesp_truth.specs.FrontLimits.{MarksKeepLimits};
 ghost use Rattle.pesp_check.specs.Judging.{no_marks, marks_noted, marks_said};
-ghost use Rattle.pesp_cert_items.specs.Lent.{marked_in, line_said};
-ghost use Rattle.pesp_judges.specs.Faults.{IsMarksFault};
+ghost use Rattle.pesp_cert_items.specs.Lent.{marked_in, item_said};
+ghost use Rattle.pesp_judges.specs.Faults.{IsMarkFault};
 
 use pesp_cert_items::{MarkedRows, TextLine};
 use pesp_judges::{Refusal, judge_walks};
-use pesp_nets::{MarkedWalk, Rates, no_rates};
-use pesp_problem::{Arc, Instance, Memory};
+use pesp_problem::{Instance, MarkedWalk, Memory};
 use pesp_truth::Marks;
 use std::alloc::{AllocError, Global};
 use std::marker::Model;
@@ -62,7 +61,7 @@ pub(crate) fn note_line(
     draft: &mut MarksDraft,
     line: &TextLine<'_>,
 ) -> Result<(), Memory>
-    ensures { OnOk result (draft.new ≡ marks_noted draft.old (line_said line.now)) }
+    ensures { OnOk result (draft.new ≡ marks_noted draft.old (item_said line.now)) }
 {
     match line {
         TextLine::Front => draft.begun = true,
@@ -75,7 +74,7 @@ pub(crate) fn note_line(
 
 /// The marks that lines said, where a front began and they keep their limits, as those of each text do.
 pub(crate) fn front_of(draft: MarksDraft) -> Option<Marks>
-    ensures { IfSome (marks_said draft) KeepsLimits → result ≡ marks_said draft }
+    ensures { IfSome (marks_said draft) MarksKeepLimits → result ≡ marks_said draft }
 {
     let MarksDraft {
         begun,
@@ -90,49 +89,20 @@ pub(crate) fn front_of(draft: MarksDraft) -> Option<Marks>
     }
 }
 
-/// The arcs of the instance behind a front, none without one.
-pub(crate) fn front_arcs(
-    alloc: Global,
-    instance: &Instance,
-    front: &Option<Marks>,
-) -> Result<Vec<Arc>, Memory>
-    ensures { IfOk result
-        (λ arcs. IfSome front.now (λ marks. arcs.items ≡ instances.arcs_of instance.now)) }
-{
-    match front {
-        None => Ok(Vec::new(alloc)),
-        Some(_) => instance.arcs(alloc),
-    }
-}
-
-/// Rates for so many rows behind a front, none without one.
-pub(crate) fn front_rates(
-    alloc: Global,
-    rows: usize,
-    front: &Option<Marks>,
-) -> Result<Vec<Rates>, AllocError>
-    ensures { IfOk result (λ rates. IfSome front.now (λ marks. length rates.items ≡ rows)) }
-{
-    match front {
-        None => Ok(Vec::new(alloc)),
-        Some(_) => no_rates(alloc, rows),
-    }
-}
-
 /// The first of the marked walks of a front that isn't closed; they are numbered on from so many cycles.
 pub(crate) fn walks_fault(
     alloc: Global,
     instance: &Instance,
     cycles: usize,
-    front: &Option<Marks>,
+    front: Option<&Marks>,
     working: &mut [i128],
 ) -> Result<Option<Refusal>, AllocError>
     requires few { cycles ≤ MOST_CYCLES }
     requires long { length working.old ≡ length instance.now.rows }
     requires zeros { AreZeros working.old }
     ensures verdict { IfOk result (λ found. MatchOption found
-        (IfSome front.now (λ marks. All (IsMarkedWalk (instances.arcs_of instance.now)) marks.walks))
-        (λ refusal. IsMarksFault front.now (instances.arcs_of instance.now) cycles refusal)) }
+        (IfSome front.entry (λ marks. All (IsMarkedWalk (instances.arcs_of instance.now)) marks.now.walks))
+        (λ refusal. IsSomeAnd front.entry (λ marks. IsMarkFault (instances.arcs_of instance.now) cycles 2 marks.now.walks refusal))) }
     ensures zeros { OnOk result (AreZeros working.new) }
 {
     match front {

@@ -3,47 +3,42 @@
 ghost use Rattle.std.specs.Prelude.{◌≡◌, ◌≢◌, ℕ, ◌<◌, ◌≤◌, ◌+◌, ◌^◌, List, ◌∷◌, [], pos, true, false, length, map, All, Option, IfOk, OnOk, MatchOption};
 ghost use Rattle.std.specs.Option.{ForSome, is_some};
 ghost use Rattle.pesp_problem.specs.declared.limits.TheConstants.{MOST_SIGNED_ROWS};
-ghost use Rattle.pesp_problem.specs.Arcs.{arc_at, arcs_of};
 ghost use Rattle.pesp_problem.specs.Walks.{RowExists};
-ghost use Rattle.pesp_lemma.specs.Fronts.{Front};
-ghost use Rattle.pesp_truth.specs.Certificates.{Content, ShowsAnswer};
+ghost use Rattle.pesp_truth.specs.Certificates.{Front, Content, ShowsAnswer};
 ghost use Rattle.pesp_cert_lines.specs.declared.item.Item.{Item as LineItem};
 ghost use Rattle.pesp_cert_lines.specs.declared.item.Item.TheVariants as items;
 ghost use Rattle.pesp_cert.specs.Texts.{HasText, tree_item};
-ghost use Rattle.pesp_cert_items.specs.Lent.{line_said, listed, pairs_in, rows_in};
-ghost use Rattle.pesp_nets.specs.Nets.{AreZeros, AreSmallCounts};
-ghost use Rattle.pesp_nets.specs.Terms.{number_at};
-ghost use Rattle.pesp_lemma.specs.Limits.{keeps_limits};
-ghost use Rattle.pesp_lemma_leaves.specs.Taken.{HaveRows, AreSmallWeights};
+ghost use Rattle.pesp_cert_items.specs.Lent.{item_said, listed, pairs_left_in, rows_in};
+ghost use Rattle.pesp_problem.specs.Nets.{AreZeros, AreSmallCounts};
+ghost use Rattle.pesp_truth.specs.Limits.{weights_keep_limits};
+ghost use Rattle.pesp_leaves.specs.Taken.{HaveRows};
+ghost use Rattle.pesp_check.specs.Rooms.{FitsRoom};
 ghost use Rattle.pesp_judges.specs.SaidLines.{KeepsSaidLimits};
-ghost use Rattle.pesp_lemma_judges.specs.Faults.{IsVerdictBehind};
+ghost use Rattle.pesp_judges.specs.Faults.{IsVerdict};
 ghost use Rattle.pesp_check.specs.Said.{pairs_of, tree_line};
 ghost use Rattle.pesp_check.specs.Items.{KeepsItemLimits, begins_later, begins_tree, ends_lemma, is_mark};
 ghost use Rattle.pesp_check.specs.declared.stage.Stage.TheVariants as stages;
-ghost use Rattle.pesp_check.specs.Judging.{JudgedAt, items_left, IsFrontFault, is_front, is_before_tree};
+ghost use Rattle.pesp_check.specs.Judging.{JudgedAt, items_left, IsHeadFault, is_front, is_before_tree};
 
 use crate::elements::{PairsLeft, RowsLeft};
-use crate::front_walks::{MarksDraft, front_arcs, front_of, front_rates, note_line, walks_fault};
+use crate::front_walks::{MarksDraft, front_of, note_line, walks_fault};
 use crate::lemma_lines::{add_fact, ends_lemma, fact_in, show_line};
-use crate::own_goal::{own_weights, said_least};
+use crate::room::{Room, claim_over, room_for};
 use crate::said_line::said_line;
 use crate::stage::Stage;
 use pesp_cert_items::{Item, LinePairs, SignedRows, TextLine};
 use pesp_judges::{
-    Checker, Nets, NodeWalk, Refusal, SaidLine, Verdict, judge_answer, judge_cycle, least_of, root,
-    take_line, zeros,
+    Checker, LemmaJudge, Nets, NodeWalk, Refusal, SaidLine, Verdict, add_nets, judge_answer,
+    judge_cycle, root, take_line,
 };
-use pesp_lemma::Lemma;
-use pesp_lemma_judges::{LemmaJudge, Shown, add_nets, take_line as take_line_from};
-use pesp_nets::Rates;
-use pesp_problem::{Arc, Instance, MOST_CYCLES, Memory};
-use pesp_truth::{Answer, Marks};
+use pesp_problem::{Instance, MOST_CYCLES, Memory};
+use pesp_truth::{Answer, Lemma, Marks};
 use std::alloc::{AllocError, Global};
 use std::mem::replace;
 
 /// What is kept of a text while its lines come: the number of the last line, what the lines of a front said, of its lemmas those
 /// that were shown and the one that is being shown, the period, the answer, the times and the net counts of the cycles; for the
-/// tree the front, what leaves that name its marked walks and lemmas ask for, and the present node with the way to it. The list
+/// tree the front, room for what leaves behind it ask for, and the present node with the way to it. The list
 /// of places is kept for all cycles.
 #[derive(Drop)]
 pub struct Judge<'a> {
@@ -58,10 +53,7 @@ pub struct Judge<'a> {
     times: Vec<(i64, u32)>,
     table: Vec<Nets>,
     places: Vec<u32>,
-    arcs: Vec<Arc>,
-    rates: Vec<Rates>,
-    own: Vec<i64>,
-    taken: Vec<i128>,
+    room: Room,
     walk: Option<NodeWalk<'a>>,
     stage: Stage,
     ghost small: { All (AreSmallCounts (length instance.now.rows)) table.items },
@@ -69,23 +61,16 @@ pub struct Judge<'a> {
     ghost begun: { is_before_tree stage ≡ true → is_some walk ≡ false },
     ghost standing: { ForSome walk (λ w. (w.problem ≡ instance.now)
         × (w.cycles ≡ length table.items)) },
-    ghost same: { is_some walk ≡ true → ForSome front (λ _. arcs.items ≡ arcs_of instance.now) },
+    ghost roomy: { is_some walk ≡ true → ForSome front (λ _. FitsRoom instance.now room) },
     ghost exist: { is_some walk ≡ true → ForSome front
-        (λ marks. All (λ path. All (λ s. RowExists arcs.items s.signed) path) marks.walks) },
-    ghost wide: { is_some walk ≡ true
-        → ForSome front (λ _. length rates.items ≡ length instance.now.rows) },
+        (λ marks. All (λ path. All (λ s. RowExists room.arcs.items s.signed) path) marks.walks) },
     ghost named: { HaveRows (length instance.now.rows) facts.items },
     ghost apart: { is_front stage ≡ false → is_some lemma ≡ false },
     ghost shown: { ForSome lemma (λ l. l.instance.now ≡ instance.now) },
-    ghost long: { is_some walk ≡ true → length own.items ≡ length instance.now.rows },
-    ghost light: { is_some walk ≡ true → AreSmallWeights own.items },
-    ghost weighed: { is_some walk ≡ true → (i : ℕ) → i < length own.items
-        → number_at own.items i ≡ pos (arc_at (arcs_of instance.now) i).weight },
-    ghost much: { is_some walk ≡ true → length taken.items ≡ length instance.now.rows },
 }
 
 /// What is wrong with a period, or with an answer and the times that are shown with it.
-fn front_fault(
+fn head_fault(
     alloc: Global,
     instance: &Instance,
     period: u32,
@@ -95,7 +80,7 @@ fn front_fault(
     ensures { IfOk result (λ found. MatchOption found
         ((period ≡ instance.now.period)
         × ShowsAnswer instance.now answer (map (λ t. t.0) times.now) (map (λ t. t.1) times.now))
-        (λ refusal. IsFrontFault instance.now period answer (map (λ t. t.0) times.now)
+        (λ refusal. IsHeadFault instance.now period answer (map (λ t. t.0) times.now)
         (map (λ t. t.1) times.now) refusal)) }
 {
     if period != instance.period() {
@@ -126,10 +111,7 @@ impl<'a> Judge<'a> {
             times: Vec::new(alloc),
             table: Vec::new(alloc),
             places: Vec::new(alloc),
-            arcs: Vec::new(alloc),
-            rates: Vec::new(alloc),
-            own: Vec::new(alloc),
-            taken: Vec::new(alloc),
+            room: Room::none(alloc),
             walk: None,
             stage: Stage::Front,
         }
@@ -149,7 +131,7 @@ impl<'a> Judge<'a> {
         if self.stage != Stage::Front {
             return Ok(());
         }
-        let found = front_fault(alloc, self.instance, self.period, self.answer, &self.times)?;
+        let found = head_fault(alloc, self.instance, self.period, self.answer, &self.times)?;
         if let Some(refusal) = found {
             self.stage = Stage::Refused(refusal);
             return Ok(());
@@ -177,15 +159,12 @@ impl<'a> Judge<'a> {
         self.front = front_of(draft);
         // A text has no more cycles.
         let cycles = self.table.len().min(MOST_CYCLES);
-        let found = walks_fault(alloc, self.instance, cycles, &self.front, working)?;
+        let found = walks_fault(alloc, self.instance, cycles, self.front.as_ref(), working)?;
         if let Some(refusal) = found {
             self.stage = Stage::Refused(refusal);
             return Ok(());
         }
-        self.arcs = front_arcs(alloc, self.instance, &self.front)?;
-        self.rates = front_rates(alloc, self.instance.rows().len(), &self.front)?;
-        self.own = own_weights(alloc, self.instance)?;
-        self.taken = zeros(alloc, self.instance.rows().len())?;
+        self.room = room_for(alloc, self.instance, self.front.is_some())?;
         let ranges = root(alloc, self.instance, &self.table)?;
         self.walk = Some(NodeWalk::new(alloc, self.instance, ranges));
         self.stage = Stage::Tree;
@@ -277,7 +256,7 @@ impl<'a> Judge<'a> {
         Ok(())
     }
 
-    /// Judges a line of the tree at the first of the nodes that wait, where there are no lemmas.
+    /// Judges a line of the tree at the first of the nodes that wait.
     fn judge_line(
         &mut self,
         alloc: Global,
@@ -285,7 +264,6 @@ impl<'a> Judge<'a> {
         working: &mut [i128],
     ) -> Result<(), Memory>
         requires stage { self.old.stage ≡ stages.Tree }
-        requires plain { self.old.facts.items ≡ [] }
         requires limits { KeepsSaidLimits pairs_of said }
         requires few { self.old.line < 2 ^ 31 }
         requires long { length working.old ≡ length self.old.instance.now.rows }
@@ -299,54 +277,7 @@ impl<'a> Judge<'a> {
             (tree_item (tree_line pairs_of said.entry) ∷ rest) (kept self.old)
             → JudgedAt self.new.stage self.old.instance.now front c rest (kept self.new)) }
     {
-        let least = least_of(self.answer);
-        self.line += 1;
-        let Some(walk) = &mut self.walk else {
-            return Ok(());
-        };
-        if walk.is_done() {
-            return Ok(());
-        }
-        let checker = Checker::new(self.instance, &self.table, &self.front, &self.arcs, least);
-        let found = take_line(
-            alloc,
-            &checker,
-            walk,
-            said,
-            self.line,
-            working,
-            &mut self.rates,
-        )?;
-        if let Some(refusal) = found {
-            self.stage = Stage::Refused(refusal);
-            return Ok(());
-        }
-        Ok(())
-    }
-
-    /// Judges a line of the tree at the first of the nodes that wait. It may name lemmas.
-    fn judge_line_from(
-        &mut self,
-        alloc: Global,
-        said: SaidLine<PairsLeft<'_>>,
-        working: &mut [i128],
-    ) -> Result<(), Memory>
-        requires stage { self.old.stage ≡ stages.Tree }
-        requires some { self.old.facts.items ≢ [] }
-        requires limits { KeepsSaidLimits pairs_of said }
-        requires few { self.old.line < 2 ^ 31 }
-        requires long { length working.old ≡ length self.old.instance.now.rows }
-        requires zeros { AreZeros working.old }
-        ensures instance { self.new.instance.now ≡ self.old.instance.now }
-        ensures line { OnOk result (self.new.line ≡ self.old.line + 1) }
-        ensures zeros { OnOk result (AreZeros working.new) }
-        ensures judged { OnOk result
-            ((front : Option Front) (c : Content) (rest : List LineItem) → HasText front c
-            → JudgedAt self.old.stage self.old.instance.now front c
-            (tree_item (tree_line pairs_of said.entry) ∷ rest) (kept self.old)
-            → JudgedAt self.new.stage self.old.instance.now front c rest (kept self.new)) }
-    {
-        let least = said_least(least_of(self.answer));
+        let least = self.answer.least();
         self.line += 1;
         // A text has no more cycles.
         if self.table.len() > MOST_CYCLES {
@@ -355,29 +286,22 @@ impl<'a> Judge<'a> {
         let Some(walk) = &mut self.walk else {
             return Ok(());
         };
-        let Some(marks) = &self.front else {
-            return Ok(());
-        };
         if walk.is_done() {
             return Ok(());
         }
-        let checker = Checker::new(self.instance, &self.table, &self.front, &self.arcs, None);
-        let shown = Shown {
+        let marks = self.front.as_ref();
+        let claim = claim_over(
             marks,
-            facts: &self.facts,
-            weights: &self.own,
+            &self.facts,
+            &self.room.arcs,
+            &self.room.weights,
             least,
-        };
-        let found = take_line_from(
-            alloc,
-            &checker,
-            &shown,
-            walk,
-            said,
-            self.line,
-            working,
-            &mut self.taken,
-            &mut self.rates,
+        );
+        let checker = Checker::new(self.instance, &self.table, claim);
+        let taken = &mut self.room.taken;
+        let rates = &mut self.room.rates;
+        let found = take_line(
+            alloc, &checker, walk, said, self.line, working, taken, rates,
         )?;
         if let Some(refusal) = found {
             self.stage = Stage::Refused(refusal);
@@ -410,10 +334,7 @@ impl<'a> Judge<'a> {
         self.end_front(alloc)?;
         self.end_cycles(alloc, working)?;
         if self.stage == Stage::Tree {
-            if self.facts.is_empty() {
-                return self.judge_line(alloc, said, working);
-            }
-            return self.judge_line_from(alloc, said, working);
+            return self.judge_line(alloc, said, working);
         }
         self.line += 1;
         Ok(())
@@ -427,7 +348,7 @@ impl<'a> Judge<'a> {
         ensures instance { self.new.instance.now ≡ self.old.instance.now }
         ensures line { OnOk result (self.new.line ≡ self.old.line + 1) }
         ensures judged { OnOk result ((front : Option Front) (c : Content) (rest : List LineItem)
-            → JudgedAt self.old.stage self.old.instance.now front c (line_said line.entry ∷ rest)
+            → JudgedAt self.old.stage self.old.instance.now front c (item_said line.entry ∷ rest)
             (kept self.old)
             → JudgedAt self.new.stage self.old.instance.now front c rest (kept self.new)) }
     {
@@ -486,12 +407,12 @@ impl<'a> Judge<'a> {
     fn end_lemma(&mut self, next: &TextLine<'_>) -> Result<(), Memory>
         ensures instance { self.new.instance.now ≡ self.old.instance.now }
         ensures line { self.new.line ≡ self.old.line }
-        ensures none { OnOk result (ends_lemma (line_said next.now) ≡ true → is_some self.new.lemma ≡ false) }
+        ensures none { OnOk result (ends_lemma (item_said next.now) ≡ true → is_some self.new.lemma ≡ false) }
         ensures judged { OnOk result
             ((front : Option Front) (c : Content) (rest : List LineItem) → HasText front c
-            → JudgedAt self.old.stage self.old.instance.now front c (line_said next.now ∷ rest)
+            → JudgedAt self.old.stage self.old.instance.now front c (item_said next.now ∷ rest)
             (kept self.old)
-            → JudgedAt self.new.stage self.old.instance.now front c (line_said next.now ∷ rest)
+            → JudgedAt self.new.stage self.old.instance.now front c (item_said next.now ∷ rest)
             (kept self.new)) }
     {
         if !ends_lemma(next) {
@@ -506,14 +427,14 @@ impl<'a> Judge<'a> {
 
     /// Takes the rows of a lemma, with their weights.
     fn begin_lemma(&mut self, alloc: Global, pairs: LinePairs<'_>) -> Result<(), Memory>
-        requires limits { keeps_limits (pairs_in pairs) ≡ true }
+        requires limits { weights_keep_limits (pairs_left_in pairs) ≡ true }
         requires none { is_some self.old.lemma ≡ false }
         requires few { self.old.line < 2 ^ 31 }
         ensures instance { self.new.instance.now ≡ self.old.instance.now }
         ensures line { OnOk result (self.new.line ≡ self.old.line + 1) }
         ensures judged { OnOk result ((front : Option Front) (c : Content) (rest : List LineItem)
             → JudgedAt self.old.stage self.old.instance.now front c
-            (items.Lemma (pairs_in pairs.entry) ∷ rest) (kept self.old)
+            (items.Lemma (pairs_left_in pairs.entry) ∷ rest) (kept self.old)
             → JudgedAt self.new.stage self.old.instance.now front c rest (kept self.new)) }
     {
         self.line += 1;
@@ -539,8 +460,8 @@ impl<'a> Judge<'a> {
         line: TextLine<'_>,
         working: &mut [i128],
     ) -> Result<(), Memory>
-        requires limits { KeepsItemLimits (line_said line) }
-        requires goes_on { ends_lemma (line_said line) ≡ false }
+        requires limits { KeepsItemLimits (item_said line) }
+        requires goes_on { ends_lemma (item_said line) ≡ false }
         requires some { is_some self.old.lemma ≡ true }
         requires few { self.old.line < 2 ^ 31 }
         requires long { length working.old ≡ length self.old.instance.now.rows }
@@ -550,7 +471,7 @@ impl<'a> Judge<'a> {
         ensures zeros { OnOk result (AreZeros working.new) }
         ensures judged { OnOk result
             ((front : Option Front) (c : Content) (rest : List LineItem) → HasText front c
-            → JudgedAt self.old.stage self.old.instance.now front c (line_said line.entry ∷ rest)
+            → JudgedAt self.old.stage self.old.instance.now front c (item_said line.entry ∷ rest)
             (kept self.old)
             → JudgedAt self.new.stage self.old.instance.now front c rest (kept self.new)) }
     {
@@ -574,7 +495,7 @@ impl<'a> Judge<'a> {
         line: TextLine<'_>,
         working: &mut [i128],
     ) -> Result<(), Memory>
-        requires limits { KeepsItemLimits (line_said line) }
+        requires limits { KeepsItemLimits (item_said line) }
         requires none { is_some self.old.lemma ≡ false }
         requires few { self.old.line < 2 ^ 31 }
         requires long { length working.old ≡ length self.old.instance.now.rows }
@@ -584,7 +505,7 @@ impl<'a> Judge<'a> {
         ensures zeros { OnOk result (AreZeros working.new) }
         ensures judged { OnOk result
             ((front : Option Front) (c : Content) (rest : List LineItem) → HasText front c
-            → JudgedAt self.old.stage self.old.instance.now front c (line_said line.entry ∷ rest)
+            → JudgedAt self.old.stage self.old.instance.now front c (item_said line.entry ∷ rest)
             (kept self.old)
             → JudgedAt self.new.stage self.old.instance.now front c rest (kept self.new)) }
     {
@@ -605,7 +526,7 @@ impl<'a> Judge<'a> {
         line: TextLine<'_>,
         working: &mut [i128],
     ) -> Result<(), Memory>
-        requires limits { KeepsItemLimits (line_said line) }
+        requires limits { KeepsItemLimits (item_said line) }
         requires few { self.old.line < 2 ^ 31 }
         requires long { length working.old ≡ length self.old.instance.now.rows }
         requires zeros { AreZeros working.old }
@@ -614,7 +535,7 @@ impl<'a> Judge<'a> {
         ensures zeros { OnOk result (AreZeros working.new) }
         ensures judged { OnOk result
             ((front : Option Front) (c : Content) (rest : List LineItem) → HasText front c
-            → JudgedAt self.old.stage self.old.instance.now front c (line_said line.entry ∷ rest)
+            → JudgedAt self.old.stage self.old.instance.now front c (item_said line.entry ∷ rest)
             (kept self.old)
             → JudgedAt self.new.stage self.old.instance.now front c rest (kept self.new)) }
     {
@@ -638,7 +559,7 @@ impl<'a> Judge<'a> {
     pub fn verdict(&self) -> Verdict
         ensures { (front : Option Front) (c : Content) → HasText front c
             → JudgedAt self.now.stage self.now.instance.now front c (items.End ∷ []) (kept self.now)
-            → IsVerdictBehind front self.now.instance.now c result }
+            → IsVerdict front self.now.instance.now c result }
     {
         match self.stage {
             Stage::Refused(refusal) => Verdict::Refused(refusal),

@@ -3,14 +3,14 @@
 ghost use Rattle.std.specs.Prelude.{◌≡◌, ℕ, ◌+◌, List, [], ◌∷◌, ◌++◌, true, false, length, All, IfOk, OnOk, MatchOption};
 ghost use Rattle.pesp_problem.specs.Arcs.{net_of};
 ghost use Rattle.pesp_problem.specs.Walks.{Names};
-ghost use Rattle.pesp_nets.specs.Nets.{AreZeros};
-ghost use Rattle.pesp_lemma.specs.Limits.{keeps_limits};
-ghost use Rattle.pesp_lemma.specs.Shown.{LemmaProof};
-ghost use Rattle.pesp_lemma_leaves.specs.Taken.{HaveRows};
-ghost use Rattle.pesp_lemma_judges.specs.Faults.{IsLemmaFault};
-ghost use Rattle.pesp_lemma_judges.specs.Showing.{kept, IsWithin};
+ghost use Rattle.pesp_problem.specs.Nets.{AreZeros};
+ghost use Rattle.pesp_truth.specs.Limits.{weights_keep_limits};
+ghost use Rattle.pesp_truth.specs.Shown.{LemmaProof};
+ghost use Rattle.pesp_leaves.specs.Taken.{HaveRows};
+ghost use Rattle.pesp_judges.specs.Faults.{IsLemmaFault};
+ghost use Rattle.pesp_judges.specs.Showing.{kept_of_lemma, KeepsLemmaLimits};
 ghost use Rattle.pesp_cert_lines.specs.declared.item.Item.{Item as LineItem};
-ghost use Rattle.pesp_cert_items.specs.Lent.{line_said, listed, pairs_in};
+ghost use Rattle.pesp_cert_items.specs.Lent.{item_said, listed, pairs_left_in};
 ghost use Rattle.pesp_check.specs.Items as spec;
 ghost use Rattle.pesp_check.specs.Items.{KeepsItemLimits, begins_part};
 ghost use Rattle.pesp_check.specs.Judging.{LemmaTo};
@@ -19,15 +19,14 @@ use crate::elements::RowsLeft;
 use crate::front_walks::walk_of;
 use crate::said_line::said_line;
 use pesp_cert_items::{Item, LinePairs, TextLine};
-use pesp_judges::Refusal;
-use pesp_lemma::{Lemma, NotLemma};
-use pesp_lemma_judges::LemmaJudge;
+use pesp_judges::{LemmaJudge, Refusal};
 use pesp_problem::{Memory, Pair};
+use pesp_truth::{Lemma, NotLemma};
 use std::alloc::{AllocError, Global};
 
 /// Whether the line stands behind a lemma that is whole: it begins the next one, or the certificate's own lines.
 pub(crate) fn ends_lemma(line: &TextLine<'_>) -> bool
-    ensures { result ≡ spec.ends_lemma (line_said line.now) }
+    ensures { result ≡ spec.ends_lemma (item_said line.now) }
 {
     match line {
         TextLine::Lemma(_) => true,
@@ -38,15 +37,15 @@ pub(crate) fn ends_lemma(line: &TextLine<'_>) -> bool
 
 /// The pairs of a line.
 fn pairs_of(alloc: Global, pairs: LinePairs<'_>) -> Result<Vec<Pair>, AllocError>
-    ensures { IfOk result (λ list. list.items ≡ pairs_in pairs.entry) }
+    ensures { IfOk result (λ list. list.items ≡ pairs_left_in pairs.entry) }
 {
     pairs.collect(alloc)
 }
 
 /// The rows of a lemma with their weights, without its least sum.
 pub(crate) fn fact_in(alloc: Global, pairs: LinePairs<'_>) -> Result<Lemma, Memory>
-    requires { keeps_limits (pairs_in pairs) ≡ true }
-    ensures { IfOk result (λ fact. fact.weights ≡ pairs_in pairs.entry) }
+    requires { weights_keep_limits (pairs_left_in pairs) ≡ true }
+    ensures { IfOk result (λ fact. fact.weights ≡ pairs_left_in pairs.entry) }
 {
     let weights = pairs_of(alloc, pairs)?;
     match Lemma::new(weights, 0) {
@@ -79,10 +78,10 @@ fn show_item(
     requires long { length working.old ≡ length lemma.old.instance.now.rows }
     requires zeros { AreZeros working.old }
     ensures instance { lemma.new.instance.now ≡ lemma.old.instance.now }
-    ensures shown { IfOk result (λ found. (s : LemmaProof) (first line : ℕ) (rest more : List LineItem) → IsWithin s
+    ensures shown { IfOk result (λ found. (s : LemmaProof) (first line : ℕ) (rest more : List LineItem) → KeepsLemmaLimits s
         → begins_part more ≡ true → spec.ends_lemma (listed item.entry) ≡ false → at ≡ line + 1
-        → LemmaTo lemma.old.instance.now facts.now s first (kept lemma.old) line (listed item.entry ∷ rest) more
-        → MatchOption found (LemmaTo lemma.old.instance.now facts.now s first (kept lemma.new) at rest more)
+        → LemmaTo lemma.old.instance.now facts.now s first (kept_of_lemma lemma.old) line (listed item.entry ∷ rest) more
+        → MatchOption found (LemmaTo lemma.old.instance.now facts.now s first (kept_of_lemma lemma.new) at rest more)
         (λ refusal. IsLemmaFault (net_of lemma.old.instance.now) facts.now s first refusal)) }
     ensures zeros { OnOk result (AreZeros working.new) }
 {
@@ -105,15 +104,15 @@ pub(crate) fn show_line(
     at: u64,
     working: &mut [i128],
 ) -> Result<Option<Refusal>, Memory>
-    requires limits { KeepsItemLimits (line_said line) }
+    requires limits { KeepsItemLimits (item_said line) }
     requires rows { HaveRows (length lemma.old.instance.now.rows) facts.now }
     requires long { length working.old ≡ length lemma.old.instance.now.rows }
     requires zeros { AreZeros working.old }
     ensures instance { lemma.new.instance.now ≡ lemma.old.instance.now }
-    ensures shown { IfOk result (λ found. (s : LemmaProof) (first before : ℕ) (rest more : List LineItem) → IsWithin s
-        → begins_part more ≡ true → spec.ends_lemma (line_said line.entry) ≡ false → at ≡ before + 1
-        → LemmaTo lemma.old.instance.now facts.now s first (kept lemma.old) before (line_said line.entry ∷ rest) more
-        → MatchOption found (LemmaTo lemma.old.instance.now facts.now s first (kept lemma.new) at rest more)
+    ensures shown { IfOk result (λ found. (s : LemmaProof) (first before : ℕ) (rest more : List LineItem) → KeepsLemmaLimits s
+        → begins_part more ≡ true → spec.ends_lemma (item_said line.entry) ≡ false → at ≡ before + 1
+        → LemmaTo lemma.old.instance.now facts.now s first (kept_of_lemma lemma.old) before (item_said line.entry ∷ rest) more
+        → MatchOption found (LemmaTo lemma.old.instance.now facts.now s first (kept_of_lemma lemma.new) at rest more)
         (λ refusal. IsLemmaFault (net_of lemma.old.instance.now) facts.now s first refusal)) }
     ensures zeros { OnOk result (AreZeros working.new) }
 {

@@ -9,7 +9,7 @@ mod front_walks;
 mod judge;
 mod lemma_check;
 mod lemma_lines;
-mod own_goal;
+mod room;
 mod said_line;
 mod stage;
 mod text_check;

@@ -10,10 +10,10 @@ use crate::judge::Judge;
 use pesp_cert::Versions;
 use pesp_cert_items::ItemReader;
 use pesp_judges::{Verdict, zeros};
-use pesp_lemma::laws::valid_behind_is_true;
 use pesp_problem::Instance;
 use pesp_stream::{MOST_INTERRUPTED, Source};
 use pesp_truth::Answer;
+use pesp_truth::laws::valid_is_true;
 use std::alloc::Global;
 
 /// Judges a certificate's text, whoever made it, while it is read, where its version is taken: the verdict that `check_sharp`
@@ -39,7 +39,7 @@ pub fn check_text_of<S: Source>(
         (λ fault. Faults versions fault (S.remaining source.old) (S.remaining source.new)
         (DeviceFailed (S.calls source.old) (S.calls source.new))) }
 {
-    valid_behind_is_true();
+    valid_is_true();
     let most = source.interrupted_reads() + MOST_INTERRUPTED;
     let mut lines = ItemReader::new(alloc, most, versions);
     let mut judge = Judge::new(alloc, instance);

@@ -1,46 +1,49 @@
 //! The check of a certificate as a whole, without a front and behind one.
 
-ghost use Rattle.std.specs.Prelude.{◌≡◌, ◌≢◌, ◌↔◌, ◌+◌, ◌^◌, ◌<◌, ◌≤◌, [], ◌∷◌, length, All, None, Some, Ok, IfOk, IfSome, MatchOption};
-ghost use Rattle.pesp_problem.specs.Arcs as instances;
+ghost use Rattle.std.specs.Prelude.{◌≡◌, ◌↔◌, ◌+◌, ◌^◌, ◌<◌, ◌≤◌, [], length, None, Ok, IfOk, IfSome, MatchOption, option_map, option_copied};
 ghost use Rattle.pesp_problem.specs.Arcs.{net_of};
 ghost use Rattle.pesp_problem.specs.Limits.{KeepsLimits};
-ghost use Rattle.pesp_problem.specs.Nodes as nodes;
-ghost use Rattle.pesp_nets.specs.Nets.{AreZeros, AreNets};
-ghost use Rattle.pesp_nets.specs.Marked.{IsMarkedWalk};
-ghost use Rattle.pesp_truth.specs.FrontLimits as fronts;
-ghost use Rattle.pesp_truth.specs.Trees.{AreSound};
+ghost use Rattle.pesp_problem.specs.Nets.{AreZeros, AreNets};
+ghost use Rattle.pesp_truth.specs.FrontLimits.{MarksKeepLimits};
+ghost use Rattle.pesp_truth.specs.Shown.{AreShownLemmas};
 ghost use Rattle.pesp_truth.specs.Truth.{IsTrueAnswer};
-ghost use Rattle.pesp_truth.specs.Certificates.{IsValid, lines_of, shown_times};
-ghost use Rattle.pesp_truth.specs.Certificates as spec;
+ghost use Rattle.pesp_truth.specs.Certificates.{Front as SpecFront, IsValid, shown_times};
+ghost use Rattle.pesp_leaves.specs.Taken.{HaveRows};
 ghost use Rattle.pesp_judges.specs.Faults as faults;
-ghost use Rattle.pesp_judges.specs.Faults.{IsVerdict, IsFirstFault, first_tree_line};
-ghost use Rattle.pesp_judges.specs.Lines.{IsLinesFault};
-ghost use Rattle.pesp_lemma.specs.Fronts.{IsValidBehind};
-ghost use Rattle.pesp_lemma_judges.specs.Faults.{IsVerdictBehind};
-ghost use Rattle.pesp_check.specs.Inner.{IsInnerFault};
+ghost use Rattle.pesp_judges.specs.Faults.{IsVerdict, IsFirstFault};
+ghost use Rattle.pesp_check.specs.Costs.{facts_said};
+ghost use Rattle.pesp_check.specs.Inner.{AreClosed, IsSoundTree, IsInnerTreeFault, IsInnerFault};
 
-use crate::front_walks::{front_arcs, front_rates, walks_fault};
-use crate::lemma_check::{fault_behind, marks_of};
+use crate::front_walks::walks_fault;
+use crate::lemma_check::{judge_front, last_line};
+use crate::room::{claim_over, room_for};
 use pesp_cert::{Certificate, Front, Fronted};
-use pesp_judges::{
-    Checker, Nets, Refusal, Verdict, judge_answer, judge_cycles, judge_tree, least_of, zeros,
-};
-use pesp_lemma::laws::valid_behind_is_true;
+use pesp_judges::{Checker, Nets, Refusal, Verdict, judge_answer, judge_cycles, judge_tree, zeros};
 use pesp_problem::{Instance, Memory};
-use pesp_truth::Marks;
 use pesp_truth::laws::valid_is_true;
+use pesp_truth::{Lemma, Marks};
 use std::alloc::Global;
 
 /// The number in the whole text of a line of the certificate's own.
-fn behind_front(front: &Option<Marks>, line: u64) -> u64
+fn own_line(front: &Option<Front>, line: u64) -> u64
     requires { line < 2 ^ 61 }
-    ensures value { result ≡ faults.behind_front front.now line }
-    ensures few { result ≤ line + 100002 }
-    ensures limits { IfSome front.now fronts.KeepsLimits }
+    ensures value { result ≡ faults.own_line front.now line }
+    ensures few { result < 2 ^ 62 }
+    ensures limits { IfSome front.now (λ f. MarksKeepLimits f.marks) }
 {
     match front {
         None => line,
-        Some(marks) => line + (2 + marks.walks().len() as u64),
+        Some(front) => last_line(front) + line,
+    }
+}
+
+/// The scale and the marked walks of a front, where there is one.
+pub(crate) fn marks_of(front: &Option<Front>) -> Option<&Marks>
+    ensures { option_copied result ≡ option_map (λ f. f.marks) front.now }
+{
+    match front {
+        None => None,
+        Some(front) => Some(front.marks()),
     }
 }
 
@@ -48,73 +51,76 @@ fn behind_front(front: &Option<Marks>, line: u64) -> u64
 fn tree_fault(
     alloc: Global,
     instance: &Instance,
-    front: &Option<Marks>,
+    front: &Option<Front>,
+    facts: &[Lemma],
     certificate: &Certificate,
     table: &[Nets],
     working: &mut [i128],
 ) -> Result<Option<Refusal>, Memory>
+    requires facts { facts.now ≡ facts_said front.now }
+    requires rows { HaveRows (length instance.now.rows) facts.now }
     requires nets { AreNets (length instance.now.rows) certificate.now.cycles table.now }
-    requires closed { IfSome front.now
-        (λ marks. All (IsMarkedWalk (instances.arcs_of instance.now)) marks.walks) }
+    requires closed { AreClosed front.now instance.now }
     requires long { length working.old ≡ length instance.now.rows }
     requires zeros { AreZeros working.old }
-    ensures { IfOk result (λ found. MatchOption found
-        (AreSound front.now (net_of instance.now) certificate.now.cycles
-        (spec.least_of certificate.now.answer) (lines_of certificate.now)
-        (nodes.root (net_of instance.now) certificate.now.cycles ∷ []))
-        (λ refusal. IsLinesFault front.now (net_of instance.now) certificate.now.cycles
-        (spec.least_of certificate.now.answer) (lines_of certificate.now)
-        (nodes.root (net_of instance.now) certificate.now.cycles ∷ [])
-        (first_tree_line front.now certificate.now) refusal)) }
+    ensures { IfOk result (λ found. MatchOption found (IsSoundTree front.now instance.now certificate.now)
+        (λ refusal. IsInnerTreeFault front.now instance.now certificate.now refusal)) }
 {
     let own = 4 + certificate.times().len() as u64 + certificate.cycles().len() as u64;
-    let first = behind_front(front, own);
-    let arcs = front_arcs(alloc, instance, front)?;
-    let mut rates = front_rates(alloc, working.len(), front)?;
-    let least = least_of(certificate.answer());
-    let checker = Checker::new(instance, table, front, &arcs, least);
+    let first = own_line(front, own);
+    let mut room = room_for(alloc, instance, front.is_some())?;
+    let least = certificate.answer().least();
+    let claim = claim_over(marks_of(front), facts, &room.arcs, &room.weights, least);
+    let checker = Checker::new(instance, table, claim);
     let lines = certificate.tree();
-    Ok(judge_tree(alloc, &checker, lines, first, working, &mut rates)?)
+    let taken = &mut room.taken;
+    let rates = &mut room.rates;
+    Ok(judge_tree(alloc, &checker, lines, first, working, taken, rates)?)
 }
 
 /// The first fault of the marked walks, or of the tree, where all cycles are walks.
 fn inner_fault(
     alloc: Global,
     instance: &Instance,
-    front: &Option<Marks>,
+    front: &Option<Front>,
+    facts: &[Lemma],
     certificate: &Certificate,
     table: &[Nets],
     working: &mut [i128],
 ) -> Result<Option<Refusal>, Memory>
+    requires facts { facts.now ≡ facts_said front.now }
+    requires rows { HaveRows (length instance.now.rows) facts.now }
     requires nets { AreNets (length instance.now.rows) certificate.now.cycles table.now }
     requires long { length working.old ≡ length instance.now.rows }
     requires zeros { AreZeros working.old }
     ensures { IfOk result (λ found. MatchOption found
-        (IfSome front.now (λ marks. All (IsMarkedWalk (instances.arcs_of instance.now)) marks.walks)
-        × AreSound front.now (net_of instance.now) certificate.now.cycles
-        (spec.least_of certificate.now.answer) (lines_of certificate.now)
-        (nodes.root (net_of instance.now) certificate.now.cycles ∷ []))
+        (AreClosed front.now instance.now × IsSoundTree front.now instance.now certificate.now)
         (λ refusal. IsInnerFault front.now instance.now certificate.now refusal)) }
 {
     let cycles = certificate.cycles().len();
-    let found = walks_fault(alloc, instance, cycles, front, working)?;
+    let found = walks_fault(alloc, instance, cycles, marks_of(front), working)?;
     if found.is_some() {
         return Ok(found);
     }
-    tree_fault(alloc, instance, front, certificate, table, working)
+    tree_fault(alloc, instance, front, facts, certificate, table, working)
 }
 
-/// The first fault of a certificate.
-fn first_fault(
+/// The first fault of a certificate's own lines, where the lemmas of its front are shown.
+fn own_fault(
     alloc: Global,
     instance: &Instance,
-    front: &Option<Marks>,
+    front: &Option<Front>,
+    facts: &[Lemma],
     certificate: &Certificate,
+    working: &mut [i128],
 ) -> Result<Option<Refusal>, Memory>
-    ensures found { IfOk result
+    requires facts { facts.now ≡ facts_said front.now }
+    requires shown { IfSome front.now (λ f. AreShownLemmas (net_of instance.now) [] f.lemmas) }
+    requires long { length working.old ≡ length instance.now.rows }
+    requires zeros { AreZeros working.old }
+    ensures { IfOk result
         (λ found. MatchOption found (IsValid front.now instance.now certificate.now)
         (λ refusal. IsFirstFault front.now instance.now certificate.now refusal)) }
-    ensures limits { KeepsLimits instance.now }
 {
     if certificate.period() != instance.period() {
         return Ok(Some(Refusal::OtherPeriod));
@@ -124,10 +130,28 @@ fn first_fault(
     if found.is_some() {
         return Ok(found);
     }
-    let line = behind_front(front, 3 + times.len() as u64);
+    let line = own_line(front, 3 + times.len() as u64);
+    match judge_cycles(alloc, instance, certificate.cycles(), line, working)? {
+        Ok(table) => inner_fault(alloc, instance, front, facts, certificate, &table, working),
+        Err(refusal) => Ok(Some(refusal)),
+    }
+}
+
+/// The first fault of a certificate.
+fn first_fault(
+    alloc: Global,
+    instance: &Instance,
+    front: &Option<Front>,
+    certificate: &Certificate,
+) -> Result<Option<Refusal>, Memory>
+    ensures found { IfOk result
+        (λ found. MatchOption found (IsValid front.now instance.now certificate.now)
+        (λ refusal. IsFirstFault front.now instance.now certificate.now refusal)) }
+    ensures limits { KeepsLimits instance.now }
+{
     let mut working = zeros(alloc, instance.rows().len())?;
-    match judge_cycles(alloc, instance, certificate.cycles(), line, &mut working)? {
-        Ok(table) => inner_fault(alloc, instance, front, certificate, &table, &mut working),
+    match judge_front(alloc, instance, front, &mut working)? {
+        Ok(facts) => own_fault(alloc, instance, front, &facts, certificate, &mut working),
         Err(refusal) => Ok(Some(refusal)),
     }
 }
@@ -136,7 +160,7 @@ fn first_fault(
 fn check_behind(
     alloc: Global,
     instance: &Instance,
-    front: &Option<Marks>,
+    front: &Option<Front>,
     certificate: &Certificate,
 ) -> Result<Verdict, Memory>
     ensures verdict { IfOk result
@@ -150,74 +174,6 @@ fn check_behind(
     match first_fault(alloc, instance, front, certificate)? {
         None => Ok(Verdict::Accepted),
         Some(refusal) => Ok(Verdict::Refused(refusal)),
-    }
-}
-
-/// Judges a certificate behind a front with lemmas.
-fn check_from(
-    alloc: Global,
-    instance: &Instance,
-    front: &Front,
-    marks: &Option<Marks>,
-    certificate: &Certificate,
-) -> Result<Verdict, Memory>
-    requires marks { marks.now ≡ Some front.now.marks }
-    requires some { front.now.lemmas ≢ [] }
-    ensures { IfOk result
-        (λ verdict. IsVerdictBehind (Some front.now) instance.now certificate.now verdict) }
-{
-    let found = fault_behind(alloc, instance, front, marks, certificate)?;
-    let Some(refusal) = found else {
-        return Ok(Verdict::Accepted);
-    };
-    Ok(Verdict::Refused(refusal))
-}
-
-/// Judges a certificate behind a front without lemmas, as ever.
-fn check_plain(
-    alloc: Global,
-    instance: &Instance,
-    front: &Front,
-    marks: &Option<Marks>,
-    certificate: &Certificate,
-) -> Result<Verdict, Memory>
-    requires marks { marks.now ≡ Some front.now.marks }
-    requires none { front.now.lemmas ≡ [] }
-    ensures { IfOk result
-        (λ verdict. IsVerdictBehind (Some front.now) instance.now certificate.now verdict) }
-{
-    let verdict = check_behind(alloc, instance, marks, certificate)?;
-    Ok(verdict)
-}
-
-/// Judges a certificate behind a front.
-fn check_front(
-    alloc: Global,
-    instance: &Instance,
-    front: &Front,
-    marks: &Option<Marks>,
-    certificate: &Certificate,
-) -> Result<Verdict, Memory>
-    requires { marks.now ≡ Some front.now.marks }
-    ensures { IfOk result
-        (λ verdict. IsVerdictBehind (Some front.now) instance.now certificate.now verdict) }
-{
-    if front.lemmas().is_empty() {
-        return check_plain(alloc, instance, front, marks, certificate);
-    }
-    check_from(alloc, instance, front, marks, certificate)
-}
-
-/// Judges a certificate with its front, where it has one.
-fn verdict_of(alloc: Global, instance: &Instance, certificate: &Fronted) -> Result<Verdict, Memory>
-    ensures { IfOk result
-        (λ verdict. IsVerdictBehind certificate.now.front instance.now certificate.now.content verdict) }
-{
-    let marks = marks_of(alloc, &certificate.front)?;
-    let own = &certificate.certificate;
-    match &certificate.front {
-        None => check_behind(alloc, instance, &marks, own),
-        Some(front) => check_front(alloc, instance, front, &marks, own),
     }
 }
 
@@ -245,23 +201,25 @@ pub fn check(
 /// period, the shape of the answer, the shown times, then at the cycles in order, then at the marked walks in
 /// order, then at the lines of the tree in order. Lines are those of the text with its front, and a marked walk that isn't
 /// closed is told as `OpenWalk` by its number, which goes on from the cycles'. A leaf's work depends on the rows that its
-/// cycles and walks pass; one that names marked walks takes that of all rows once, and so does one closed by propagation. A
-/// branch takes constant work, and no call depth grows with the tree.
+/// cycles and walks pass; one that names marked walks or lemmas takes that of all rows once, and so does one closed by
+/// propagation. A branch takes constant work, and no call depth grows with the tree.
 pub fn check_sharp(
     alloc: Global,
     instance: &Instance,
     certificate: &Fronted,
 ) -> Result<Verdict, Memory>
     ensures verdict { IfOk result
-        (λ verdict. IsVerdictBehind certificate.now.front instance.now certificate.now.content verdict) }
+        (λ verdict. IsVerdict certificate.now.front instance.now certificate.now.content verdict) }
     ensures exactly { IfOk result (λ verdict. (verdict ≡ Verdict.Accepted)
-        ↔ IsValidBehind certificate.now.front instance.now certificate.now.content) }
+        ↔ IsValid certificate.now.front instance.now certificate.now.content) }
     ensures truth { result ≡ Ok Verdict.Accepted
         → IsTrueAnswer instance.now certificate.now.content.answer
         (shown_times certificate.now.content) }
 {
-    valid_behind_is_true();
-    instance.period();
-    let verdict = verdict_of(alloc, instance, certificate)?;
-    Ok(verdict)
+    check_behind(
+        alloc,
+        instance,
+        &certificate.front,
+        &certificate.certificate,
+    )
 }

@@ -28,19 +28,19 @@ read_fault ReadMemory = Memory
 read_fault Device = Read
 
 -- the line of a fault, without its line feed
-abbrev pub fault_line : VerdictFault → List ℕ
-fault_line (Instance refusal) = codes "instance: " ++ instance_line refusal
-fault_line (Certificate refusal) = codes "certificate: " ++ certificate_line refusal
-fault_line Memory = codes "memory"
-fault_line Read = codes "device: read"
-fault_line Write = codes "device: write"
-fault_line NoFile = codes "device: no file"
+abbrev pub verdict_fault_line : VerdictFault → List ℕ
+verdict_fault_line (Instance refusal) = codes "instance: " ++ instance_line refusal
+verdict_fault_line (Certificate refusal) = codes "certificate: " ++ certificate_line refusal
+verdict_fault_line Memory = codes "memory"
+verdict_fault_line Read = codes "device: read"
+verdict_fault_line Write = codes "device: write"
+verdict_fault_line NoFile = codes "device: no file"
 
 -- 3 for a text that is refused, 4 for memory and devices
-abbrev pub exit_status : VerdictFault → ℕ
-exit_status (Instance refusal) = 3
-exit_status (Certificate refusal) = 3
-exit_status Memory = 4
-exit_status Read = 4
-exit_status Write = 4
-exit_status NoFile = 4
+abbrev pub verdict_exit_status : VerdictFault → ℕ
+verdict_exit_status (Instance refusal) = 3
+verdict_exit_status (Certificate refusal) = 3
+verdict_exit_status Memory = 4
+verdict_exit_status Read = 4
+verdict_exit_status Write = 4
+verdict_exit_status NoFile = 4

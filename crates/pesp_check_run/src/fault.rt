@@ -1,7 +1,7 @@
 //! Faults of the checker's run, as lines and as exit statuses.
 
 ghost use Rattle.std.specs.Prelude.{◌≡◌};
-ghost use Rattle.pesp_check_run.specs.FaultLines.{exit_status};
+ghost use Rattle.pesp_check_run.specs.FaultLines.{verdict_exit_status};
 
 use pesp_cert::CertRefusal;
 use pesp_check::CheckFault;
@@ -95,9 +95,9 @@ impl From<AllocError> for VerdictFault {
 /// The fault's line, without the line feed at its end.
 impl fmt::Display for VerdictFault {
     ghost use Rattle.std.specs.Prelude.{Some};
-    ghost use Rattle.pesp_check_run.specs.FaultLines.{fault_line};
+    ghost use Rattle.pesp_check_run.specs.FaultLines.{verdict_fault_line};
 
-    ghost output = { λ fault. Some (fault_line fault) };
+    ghost output = { λ fault. Some (verdict_fault_line fault) };
 
     fn fmt<W: fmt::Write>(&self, f: &mut fmt::Formatter<W>) -> fmt::Result {
         match self {
@@ -113,7 +113,7 @@ impl fmt::Display for VerdictFault {
 
 /// The exit status of the program for a fault: 3 for a text that is refused, 4 for memory and devices.
 pub fn status_of(fault: &VerdictFault) -> u8
-    ensures { result ≡ exit_status fault.now }
+    ensures { result ≡ verdict_exit_status fault.now }
 {
     match fault {
         VerdictFault::Instance(_) | VerdictFault::Certificate(_) => 3,

@@ -6,10 +6,10 @@ use Rattle.pesp_judges.specs.declared.refusal.Verdict.{Verdict}
 use Rattle.pesp_check_run.specs.Devices.{Device}
 use Rattle.pesp_check_run.specs.Checking.{Checks, CheckCause}
 use Rattle.pesp_check_run.specs.Verdicts.{verdict_status}
-use Rattle.pesp_check_run.specs.FaultLines.{fault_line, exit_status}
+use Rattle.pesp_check_run.specs.FaultLines.{verdict_fault_line, verdict_exit_status}
 use Rattle.pesp_check_run.specs.declared.fault.VerdictFault.{VerdictFault}
 use Rattle.pesp_check_run.specs.declared.fault.VerdictFault.TheVariants.{Memory, Write, NoFile}
-use Rattle.pesp_telling.specs.Lines.{Gets, GetsLine}
+use Rattle.pesp_check_run.specs.Lines.{Gets, GetsLine}
 
 -- some text is an instance with this period, the text that was read is that of a certificate whose version is taken, and the
 -- verdict on it is written; the status is the verdict's
@@ -28,11 +28,11 @@ NoVerdictCause versions fault period reader writer uncalled =
 -- a fault is told, or that its line found no memory; the status is that of what is told
 abbrev pub TellsFault : VerdictFault → Device → ℕ → Type 0
 TellsFault fault teller status =
-    (GetsLine teller (fault_line fault) × (status ≡ exit_status fault))
-    ⊎ (GetsLine teller (fault_line Memory) × (status ≡ exit_status Memory))
+    (GetsLine teller (verdict_fault_line fault) × (status ≡ verdict_exit_status fault))
+    ⊎ (GetsLine teller (verdict_fault_line Memory) × (status ≡ verdict_exit_status Memory))
 
 -- a fault with its cause is told; the writer was called only where it failed
-pub record Stops (versions : Versions) (period : ℕ) (reader writer teller : Device) (uncalled silent : Type 0) (status : ℕ) : Type 0 where
+pub record StopsChecker (versions : Versions) (period : ℕ) (reader writer teller : Device) (uncalled silent : Type 0) (status : ℕ) : Type 0 where
   pub fault : VerdictFault
   pub cause : NoVerdictCause versions fault period reader writer uncalled
   pub unwritten : fault ≢ Write → silent
@@ -41,10 +41,10 @@ pub record Stops (versions : Versions) (period : ℕ) (reader writer teller : De
 -- a verdict, or a fault
 abbrev pub AnswersRequest : Versions → ℕ → Device → Device → Device → Type 0 → Type 0 → ℕ → Type 0
 AnswersRequest versions period reader writer teller uncalled silent status =
-    GivesVerdict versions period reader writer status ⊎ Stops versions period reader writer teller uncalled silent status
+    GivesVerdict versions period reader writer status ⊎ StopsChecker versions period reader writer teller uncalled silent status
 
 -- with some period within the limit; or status 2, and nothing is read or written
-abbrev pub Answers : Versions → Device → Device → Device → Type 0 → Type 0 → ℕ → Type 0
-Answers versions reader writer teller uncalled silent status =
+abbrev pub AnswersChecker : Versions → Device → Device → Device → Type 0 → Type 0 → ℕ → Type 0
+AnswersChecker versions reader writer teller uncalled silent status =
     ((period : ℕ) × (1 ≤ period) × (period ≤ MOST_PERIOD) × AnswersRequest versions period reader writer teller uncalled silent status)
     ⊎ ((status ≡ 2) × uncalled × silent)

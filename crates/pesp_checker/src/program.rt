@@ -4,13 +4,12 @@ ghost use Rattle.std.specs.Prelude.{◌≡◌, ◌≢◌, ◌<◌, ◌^◌, IfOk
 ghost use Rattle.pesp_stream.specs.Counts.{FewerThan};
 ghost use Rattle.pesp_check_run.specs.Devices.{over};
 ghost use Rattle.pesp_checker.specs.Words.{versions_asked};
-ghost use Rattle.pesp_checker.specs.Statuses.{Answers, AnswersRequest, GivesVerdict, NoVerdictCause};
+ghost use Rattle.pesp_checker.specs.Statuses.{AnswersChecker, AnswersRequest, GivesVerdict, NoVerdictCause};
 
-use crate::request::{Request, USAGE, request_of};
+use crate::request::{CheckRequest, USAGE, request_of};
 use crate::telling::told;
-use pesp_check_run::{VerdictFault, run_check_of, status_of_verdict};
+use pesp_check_run::{VerdictFault, run_check_of, status_of_verdict, tell, teller_of};
 use pesp_stream::{Counted, Sink, Source};
-use pesp_telling::{tell, teller_of};
 use std::fs::File;
 use std::process::ExitCode;
 use std::rt::{Env, Files};
@@ -61,7 +60,7 @@ fn status_of_words<R: AllocGlobal + Files, S: Source, W: Sink, E: Sink>(
     requires reads_fit { FewerThan (2 ^ 62) (S.calls reader.old) }
     requires writes_fit { FewerThan (2 ^ 62) (W.calls writer.old) }
     requires tellings_fit { FewerThan (2 ^ 62) (E.calls teller.old) }
-    ensures { Answers (versions_asked words.now)
+    ensures { AnswersChecker (versions_asked words.now)
         (over (S.remaining reader.old) (S.remaining reader.new)
         (S.calls reader.old) (S.calls reader.new))
         (over (W.contents writer.old) (W.contents writer.new)
@@ -86,7 +85,7 @@ fn status_of_request<R: AllocGlobal + Files, S: Source, W: Sink, E: Sink>(
     reader: &mut S,
     writer: &mut W,
     teller: &mut E,
-    request: Request<'_>,
+    request: CheckRequest<'_>,
 ) -> u8
     requires reads_fit { FewerThan (2 ^ 62) (S.calls reader.old) }
     requires writes_fit { FewerThan (2 ^ 62) (W.calls writer.old) }
@@ -111,7 +110,7 @@ fn check<R: AllocGlobal + Files, S: Source, W: Sink>(
     rt: &R,
     reader: &mut S,
     writer: &mut W,
-    request: Request<'_>,
+    request: CheckRequest<'_>,
 ) -> Result<u8, VerdictFault>
     requires reads_fit { FewerThan (2 ^ 62) (S.calls reader.old) }
     requires writes_fit { FewerThan (2 ^ 62) (W.calls writer.old) }

@@ -18,7 +18,7 @@ or a device
 
 /// The versions that are taken, the period, in the unit of the instance's durations, and the file with the instance.
 #[derive(Drop)]
-pub(crate) struct Request<'a> {
+pub(crate) struct CheckRequest<'a> {
     pub(crate) versions: Versions,
     pub(crate) period: u32,
     pub(crate) file: &'a str,
@@ -36,17 +36,17 @@ fn period_of(word: &str) -> Option<u32>
 }
 
 /// What the words behind the versions ask for: `FILE`, or `--period N FILE`.
-fn request_behind(versions: Versions, words: &[String]) -> Option<Request<'_>>
+fn request_behind(versions: Versions, words: &[String]) -> Option<CheckRequest<'_>>
     ensures { IfSome result (λ request. (request.versions ≡ versions) × (1 ≤ request.period)
         × (request.period ≤ MOST_PERIOD)) }
 {
     match words {
-        [file] if !file.as_str().starts_with("-") => Some(Request {
+        [file] if !file.as_str().starts_with("-") => Some(CheckRequest {
             versions,
             period: 60,
             file: file.as_str(),
         }),
-        [option, period, file] if option.as_str() == "--period" => Some(Request {
+        [option, period, file] if option.as_str() == "--period" => Some(CheckRequest {
             versions,
             period: period_of(period.as_str())?,
             file: file.as_str(),
@@ -56,7 +56,7 @@ fn request_behind(versions: Versions, words: &[String]) -> Option<Request<'_>>
 }
 
 /// What the words ask for, the program's name first, and then `--sharp` where all versions are taken.
-pub(crate) fn request_of(words: &[String]) -> Option<Request<'_>>
+pub(crate) fn request_of(words: &[String]) -> Option<CheckRequest<'_>>
     ensures { IfSome result (λ request. (request.versions ≡ versions_asked words.now) × (1 ≤ request.period)
         × (request.period ≤ MOST_PERIOD)) }
 {

@@ -5,9 +5,8 @@ ghost use Rattle.pesp_stream.specs.Counts.{FewerThan};
 ghost use Rattle.pesp_check_run.specs.Devices.{over};
 ghost use Rattle.pesp_checker.specs.Statuses.{TellsFault};
 
-use pesp_check_run::{VerdictFault, status_of};
+use pesp_check_run::{VerdictFault, status_of, tell};
 use pesp_stream::{Bytes, Sink};
-use pesp_telling::tell;
 use std::alloc::Global;
 
 /// Tells a fault on a line, and gives its exit status, whether or not the line went out. Where the line finds no memory, that is

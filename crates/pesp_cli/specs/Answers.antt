@@ -1,17 +1,16 @@
 -- What the program reads and writes for a request, and its exit status.
-use Rattle.std.specs.Prelude.{◌≡◌, ◌⊎◌, ℕ, ℤ, List, ◌++◌, codes, zero, suc, Option, Some, None, IsSome, ⊤}
-use Rattle.std.specs.Io.KnownBytes.{Appends}
+use Rattle.std.specs.Prelude.{◌≡◌, ◌⊎◌, ℕ, ℤ, List, zero, suc, Option, Some, None, IsSome, ⊤}
 use Rattle.pesp_problem.specs.Timetables.{Pesp}
 use Rattle.pesp_report.specs.Report.{IsReport}
 use Rattle.pesp_report.specs.Named.{IsNamedReport}
-use Rattle.pesp_fix.specs.declared.refusal.FixRefusal.{FixRefusal}
+use Rattle.pesp_timetable.specs.declared.refusal.FixRefusal.{FixRefusal}
 use Rattle.pesp_timetable.specs.Texts.{IsTimetableText}
 use Rattle.pesp_judges.specs.declared.refusal.Verdict.{Verdict}
 use Rattle.pesp_cert_lines.specs.declared.versions.Versions.TheVariants.{Plain, All}
 use Rattle.pesp_check_run.specs.Checking.{Checks}
 use Rattle.pesp_plan.specs.Planning.{WritesPlan, KeepsSome, KeepsSomeOn}
 use Rattle.pesp_plan.specs.Beginning.{FromOld, FromStanding}
-use Rattle.pesp_check_run.specs.Devices.{Device, HasFailed, GetsFront}
+use Rattle.pesp_check_run.specs.Devices.{Device}
 use Rattle.pesp_check_run.specs.Verdicts.{verdict_status}
 use Rattle.pesp_runs.specs.Reading.{HasBase, ReadsTimetable}
 use Rattle.pesp_runs.specs.FaultLines.{fault_line, exit_status}
@@ -31,7 +30,7 @@ use Rattle.pesp_report_run.specs.Fixing.{WritesFixed}
 use Rattle.pesp_report_run.specs.Runs.{TellsConflict}
 use Rattle.pesp_report_run.specs.Told.{told_text, told_status}
 use Rattle.pesp_report_run.specs.declared.told.Told.{Told}
-use Rattle.pesp_telling.specs.Lines.{Gets, GetsLine}
+use Rattle.pesp_check_run.specs.Lines.{Gets, GetsLine}
 use Rattle.pesp_request.specs.declared.request.OfInstance.{OfInstance}
 use Rattle.pesp_request.specs.declared.request.OfInstance.TheVariants.{Solve, SolveSharp, Plan, Conflict}
 use Rattle.pesp_request.specs.declared.request.OfCertificate.{OfCertificate}

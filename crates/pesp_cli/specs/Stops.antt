@@ -55,9 +55,9 @@ OrNoNames fault Cause = OrNoFile fault (((names : Device) × NamesCause fault na
 -- a search that writes this and stops for that, from the times in a file where one is named
 abbrev pub StopsSearch : {A : Type 0} → (Pesp → List ℕ → Fault → Type 0 → Type 0) → (Pesp → List ℕ → (List ℕ → Type 0) → Type 0)
     → Option A → Fault → ℕ → Device → Device → Type 0
-StopsSearch Stops Writes None fault period reader writer = AloneCause Stops Writes fault reader writer period
-StopsSearch Stops Writes (Some file) fault period reader writer =
-    OrNoFile fault ((times : Device) × FromTimesCause Stops Writes fault reader times writer period ⊤)
+StopsSearch StopsProgram Writes None fault period reader writer = AloneCause StopsProgram Writes fault reader writer period
+StopsSearch StopsProgram Writes (Some file) fault period reader writer =
+    OrNoFile fault ((times : Device) × FromTimesCause StopsProgram Writes fault reader times writer period ⊤)
 
 -- a task with a certificate without a front, which writes this; `uncalled` says that its reader was not called
 abbrev pub StopsPlain : Fault → ℕ → Device → Device → Device → Type 0 → (Pesp → Content → (List ℕ → Type 0) → Type 0) → Type 0
@@ -79,9 +79,9 @@ StopsConflict (Some file) fault steps period reader writer =
 -- a plan that writes this and stops for that, from old times in a file where one is named
 abbrev pub StopsBegun : {A : Type 0} → (Pesp → List ℕ → Fault → Type 0 → Type 0) → (Pesp → List ℕ → (List ℕ → Type 0) → Type 0)
     → Option A → Fault → ℕ → Device → Device → Type 0
-StopsBegun Stops Writes None fault period reader writer = AloneCause Stops Writes fault reader writer period
-StopsBegun Stops Writes (Some file) fault period reader writer =
-    OrNoFile fault ((times : Device) × FromOldCause Stops Writes fault reader times writer period ⊤)
+StopsBegun StopsProgram Writes None fault period reader writer = AloneCause StopsProgram Writes fault reader writer period
+StopsBegun StopsProgram Writes (Some file) fault period reader writer =
+    OrNoFile fault ((times : Device) × FromOldCause StopsProgram Writes fault reader times writer period ⊤)
 
 -- a plan that is kept in a file, which can't be had, or can't be written
 abbrev pub StopsKept : {A : Type 0} → Option A → Fault → ℕ → Device → Device → Type 0
@@ -196,6 +196,6 @@ StopsAsked (Works file base asked) fault period reader writer teller uncalled =
     OrNoFile fault ((instance base : Device) × StopsWorks asked fault period instance base reader writer teller ⊤ uncalled)
 
 -- why the program stops for a request without an answer
-abbrev pub Stops : Request → Fault → Device → Device → Device → Type 0 → Type 0
-Stops request fault reader writer teller uncalled =
+abbrev pub StopsProgram : Request → Fault → Device → Device → Device → Type 0 → Type 0
+StopsProgram request fault reader writer teller uncalled =
     StopsAsked request.asked fault request.period reader writer teller uncalled

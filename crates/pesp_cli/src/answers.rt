@@ -15,12 +15,11 @@ use crate::input::{Beginning, warn_of_period};
 use crate::plans::of_plan;
 use crate::telling::{tell_sums, told_conflict, told_fix};
 use pesp_check_run::{run_check, run_check_sharp, status_of_verdict};
-use pesp_fix::Wanted;
 use pesp_plan::Lockable;
 use pesp_progress::{Teller, Watch};
 use pesp_report::Names;
 use pesp_report_run::{
-    Diagrams, NamedReport, Page, Picture, Report, Timetable, read_whole_names, run_conflict,
+    Diagrams, HtmlPage, NamedReport, Picture, Report, Timetable, read_whole_names, run_conflict,
     run_fix, run_sheet, run_violations, status_of_told,
 };
 use pesp_request::{OfCertificate, OfInstance, OfLeaves, OfTimes, OfWorks};
@@ -28,9 +27,10 @@ use pesp_runs::{Fault, OnBase, Search, run_alone, run_from_times, run_on_base};
 use pesp_sharp_search::Sharpener;
 use pesp_stream::{Counted, Sink, Source};
 use pesp_tasks::{
-    Gap, GapJson, Resume, ResumeSharp, Solve, SolveSharp, Split, SplitSharp, Work, WorkSharp,
+    Gap, GapJson, Resume, ResumeSharp, Solve, SolveSharp, Split, SplitSharp, WorkSharp, WorkTask,
     run_graft, run_graft_sharp,
 };
+use pesp_timetable::Wanted;
 use std::alloc::Global;
 use std::fs::File;
 use std::rt::{Clock, Files};
@@ -374,7 +374,7 @@ pub(crate) fn of_leaves<R: AllocGlobal, I: Source, S: Source, W: Sink, F: Sharpe
     match asked {
         OfLeaves::Work { steps, until, jobs } => {
             let jobs = jobs.as_slice();
-            let mut task = Work {
+            let mut task = WorkTask {
                 steps,
                 until,
                 jobs,
@@ -592,11 +592,11 @@ pub(crate) fn of_times<R: AllocGlobal + Eprint + Files, I: Source, S: Source, W:
             fix(rt, instance, reader, writer, period, names, wanted)
         }
         OfTimes::Page { names: None } => {
-            done(run_sheet(alloc, &Page(None), instance, reader, writer, period))
+            done(run_sheet(alloc, &HtmlPage(None), instance, reader, writer, period))
         }
         OfTimes::Page { names: Some(file) } => {
             let names = names_in(rt, file)?;
-            let sheet = Page(Some(&names));
+            let sheet = HtmlPage(Some(&names));
             done(run_sheet(alloc, &sheet, instance, reader, writer, period))
         }
     }

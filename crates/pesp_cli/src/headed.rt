@@ -5,7 +5,7 @@ use std::{fmt, io};
 
 /// Where a reader is: behind nothing that counts in its line, in a comment, or behind the first record that counts.
 #[derive(Clone, Copy, PartialEq, Eq, Drop)]
-enum Place {
+enum ReaderPlace {
     Lead,
     Comment,
     Over,
@@ -15,7 +15,7 @@ enum Place {
 #[derive(Drop)]
 struct Lookout<'a, R> {
     rt: Option<&'a R>,
-    place: Place,
+    place: ReaderPlace,
     line: u64,
 }
 
@@ -47,7 +47,7 @@ impl<R: Eprint> Lookout<'_, R> {
     /// Takes what comes next, until the first record that counts has begun.
     fn add(&mut self, bytes: &[u8]) {
         for byte in bytes {
-            if self.place == Place::Over {
+            if self.place == ReaderPlace::Over {
                 return;
             }
             self.add_byte(*byte);
@@ -59,10 +59,10 @@ impl<R: Eprint> Lookout<'_, R> {
         match byte {
             b'\n' => {
                 self.line = self.line.saturating_add(1);
-                self.place = Place::Lead;
+                self.place = ReaderPlace::Lead;
             }
-            _ if self.place == Place::Comment => {}
-            b'#' => self.place = Place::Comment,
+            _ if self.place == ReaderPlace::Comment => {}
+            b'#' => self.place = ReaderPlace::Comment,
             // A mark of the order of bytes, blanks, quotes and the ends of blank fields.
             0xef | 0xbb | 0xbf | b' ' | b'\t' | b'\r' | b'"' | b',' | b';' => {}
             _ => self.begin_record(byte),
@@ -71,7 +71,7 @@ impl<R: Eprint> Lookout<'_, R> {
 
     /// Takes the first byte of a record that counts.
     fn begin_record(&mut self, byte: u8) {
-        self.place = Place::Over;
+        self.place = ReaderPlace::Over;
         if let Some(rt) = self.rt {
             if byte.is_ascii_alphabetic() {
                 let _ = rt.eprintln(Header { line: self.line });
@@ -85,7 +85,7 @@ impl<'a, R: Eprint, S: Read> Headed<'a, R, S> {
     pub(crate) fn of(inner: S, rt: Option<&'a R>) -> Headed<'a, R, S> {
         let lookout = Lookout {
             rt,
-            place: Place::Lead,
+            place: ReaderPlace::Lead,
             line: 1,
         };
         Headed { inner, lookout }

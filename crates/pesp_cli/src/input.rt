@@ -8,7 +8,7 @@ const KEPT: usize = 24;
 
 /// Which line of a certificate comes next: its first one, one at which its period may stand, or one that is passed over.
 #[derive(Clone, Copy, PartialEq, Eq, Drop)]
-enum Next {
+enum NextHeader {
     First,
     Period,
     Other,
@@ -16,20 +16,20 @@ enum Next {
 
 /// The period of a certificate, looked for line by line. In version 3 marked walks stand before it.
 #[derive(Drop)]
-struct Kept {
+struct PeriodScan {
     line: [u8; KEPT],
     count: usize,
-    next: Next,
+    next: NextHeader,
     period: Option<u32>,
 }
 
-impl Kept {
+impl PeriodScan {
     /// Nothing is read yet.
-    fn new() -> Kept {
-        Kept {
+    fn new() -> PeriodScan {
+        PeriodScan {
             line: [0; KEPT],
             count: 0,
-            next: Next::First,
+            next: NextHeader::First,
             period: None,
         }
     }
@@ -37,7 +37,7 @@ impl Kept {
     /// Takes what comes next, until the period is found or can't stand there any more.
     fn add(&mut self, bytes: &[u8]) {
         for byte in bytes {
-            if self.next == Next::Other {
+            if self.next == NextHeader::Other {
                 return;
             }
             self.add_byte(*byte);
@@ -57,7 +57,7 @@ impl Kept {
     /// Takes the line that is read.
     fn end_line(&mut self) {
         let line = str::from_utf8(self.line.get(..self.count).unwrap_or(b"")).unwrap_or("");
-        if self.next == Next::Period {
+        if self.next == NextHeader::Period {
             self.period = period_in(line);
         }
         self.next = next_behind(self.next, line);
@@ -71,13 +71,13 @@ fn period_in(line: &str) -> Option<u32> {
 }
 
 /// What comes behind a line of a certificate.
-fn next_behind(next: Next, line: &str) -> Next {
+fn next_behind(next: NextHeader, line: &str) -> NextHeader {
     let is_first = line.starts_with("pesp-certificate ");
     let is_front = line.starts_with("scale ") || line.starts_with("walk ");
     match next {
-        Next::First if is_first => Next::Period,
-        Next::Period if is_first || is_front => Next::Period,
-        _ => Next::Other,
+        NextHeader::First if is_first => NextHeader::Period,
+        NextHeader::Period if is_first || is_front => NextHeader::Period,
+        _ => NextHeader::Other,
     }
 }
 
@@ -85,7 +85,7 @@ fn next_behind(next: Next, line: &str) -> Next {
 #[derive(Drop)]
 pub(crate) struct Beginning<S> {
     inner: S,
-    kept: Kept,
+    kept: PeriodScan,
 }
 
 impl<S: Read> Beginning<S> {
@@ -93,7 +93,7 @@ impl<S: Read> Beginning<S> {
     pub(crate) fn of(inner: S) -> Beginning<S> {
         Beginning {
             inner,
-            kept: Kept::new(),
+            kept: PeriodScan::new(),
         }
     }
 

@@ -8,12 +8,12 @@ use std::io::{ErrorKind, Write};
 
 /// Standard output, and whether the program that read it has gone away.
 #[derive(Drop)]
-pub(crate) struct Output<'a, R: Print> {
+pub(crate) struct StandardOutput<'a, R: Print> {
     to: &'a R,
     pub(crate) unread: bool,
 }
 
-impl<R: Print> Write for Output<'_, R> {
+impl<R: Print> Write for StandardOutput<'_, R> {
     fn write(&mut self, buf: &[u8]) -> io::Result<usize> {
         let written = self.to.write_some(buf);
         if let Err(error) = &written {
@@ -28,11 +28,11 @@ impl<R: Print> Write for Output<'_, R> {
 }
 
 /// Standard output, of which no call was made.
-pub(crate) fn writer_of<R: Print>(rt: &R) -> Counted<Output<'_, R>>
+pub(crate) fn writer_of<R: Print>(rt: &R) -> Counted<StandardOutput<'_, R>>
     ensures failed { result.calls.failed ≡ 0 }
     ensures interrupted { result.calls.interrupted ≡ 0 }
 {
-    Counted::new(Output {
+    Counted::new(StandardOutput {
         to: rt,
         unread: false,
     })

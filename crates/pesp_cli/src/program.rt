@@ -5,7 +5,7 @@ ghost use Rattle.pesp_stream.specs.Counts.{FewerThan};
 ghost use Rattle.pesp_check_run.specs.Devices.{over};
 ghost use Rattle.pesp_request.specs.Requests.{IsWithinLimits};
 ghost use Rattle.pesp_cli.specs.Answers.{Answers};
-ghost use Rattle.pesp_cli.specs.Stops.{Stops};
+ghost use Rattle.pesp_cli.specs.Stops.{StopsProgram};
 
 use crate::answers::{
     of_certificate, of_instance, of_leaves, of_times, of_works, opened, opened_headed,
@@ -16,12 +16,12 @@ use crate::output::writer_of;
 use crate::telling::told;
 use clap::Error;
 use clap::error::ErrorKind;
+use pesp_check_run::teller_of;
 use pesp_plan::Lockable;
 use pesp_request::{Asked, OfInstance, Request, request_of};
 use pesp_runs::{Fault, status_of};
 use pesp_sharp_search::Sharpener;
 use pesp_stream::{Counted, Sink, Source};
-use pesp_telling::teller_of;
 use std::process::ExitCode;
 use std::rt::{Clock, Env, Files};
 use std::{env, io};
@@ -165,7 +165,7 @@ where
         (over (E.contents teller.old) (E.contents teller.new)
         (E.calls teller.old) (E.calls teller.new))
         (writer.new ≡ writer.old)) }
-    ensures stopped { IfErr result (λ fault. Stops request.entry fault
+    ensures stopped { IfErr result (λ fault. StopsProgram request.entry fault
         (over (S.remaining reader.old) (S.remaining reader.new)
         (S.calls reader.old) (S.calls reader.new))
         (over (W.contents writer.old) (W.contents writer.new)

@@ -14,7 +14,7 @@ pub struct Activity {
 
 /// A row that crosses between a set of events and the rest: its slack grows or falls as the set is shifted.
 #[derive(Clone, Copy)]
-pub struct Crossing {
+pub struct SlackCrossing {
     pub row: u32,
     pub grows: bool,
 }

@@ -1,9 +1,9 @@
 //! Events in clusters that are shifted as a whole.
 
-use crate::activity::{Activity, Crossing};
+use crate::activity::{Activity, SlackCrossing};
 use crate::lists::Lists;
-use pesp_search_tools::Groups;
-use pesp_search_tools::guarded::{number, set_number};
+use pesp_forest::Groups;
+use pesp_forest::guarded::{number, set_number};
 use std::alloc::{AllocError, Global};
 
 /// The clusters of a row's tail and head.
@@ -50,12 +50,12 @@ impl Clusters {
     }
 
     /// The rows between a cluster and others.
-    pub fn star(&self, cluster: u32) -> Option<&[Crossing]> {
+    pub fn star(&self, cluster: u32) -> Option<&[SlackCrossing]> {
         self.star.of(cluster)
     }
 
     /// The cluster at the other end of a row, seen from one of the two.
-    pub fn beyond(&self, crossing: &Crossing) -> Option<u32> {
+    pub fn beyond(&self, crossing: &SlackCrossing) -> Option<u32> {
         let ends = self.ends.get(crossing.row as usize)?;
         Some(if crossing.grows { ends.tail } else { ends.head })
     }

@@ -1,9 +1,9 @@
 //! The cuts of a forest: the events below each place, and the rows that cross between these and the rest.
 
-use crate::activity::{Activity, Crossing};
+use crate::activity::{Activity, SlackCrossing};
 use crate::lists::Lists;
-use crate::rooted::Rooted;
-use pesp_search_tools::Random;
+use crate::rooted::OrderedForest;
+use pesp_forest::Random;
 use std::alloc::{AllocError, Global};
 
 /// How many crossings are listed at most.
@@ -11,14 +11,14 @@ const MOST_CROSSINGS: u32 = 8_000_000;
 
 /// The rows that cross the cut at each place of a forest, and an order of these places.
 #[derive(Drop)]
-pub struct Cuts {
-    rooted: Rooted,
+pub struct ForestCuts {
+    rooted: OrderedForest,
     lists: Lists,
     order: Vec<u32>,
 }
 
 /// Counts the cuts that a row crosses; how many.
-fn count_row(rooted: &Rooted, lists: &mut Lists, row: &Activity) -> Option<u32> {
+fn count_row(rooted: &OrderedForest, lists: &mut Lists, row: &Activity) -> Option<u32> {
     let mut tail = rooted.begin(row.tail)?;
     let mut head = rooted.begin(row.head)?;
     for count in 0..MOST_CROSSINGS {
@@ -37,7 +37,7 @@ fn count_row(rooted: &Rooted, lists: &mut Lists, row: &Activity) -> Option<u32> 
 }
 
 /// Puts a row to the cuts that it crosses.
-fn put_row(rooted: &Rooted, lists: &mut Lists, row: &Activity, place: u32) -> Option<()> {
+fn put_row(rooted: &OrderedForest, lists: &mut Lists, row: &Activity, place: u32) -> Option<()> {
     let mut tail = rooted.begin(row.tail)?;
     let mut head = rooted.begin(row.head)?;
     for _ in 0..MOST_CROSSINGS {
@@ -55,12 +55,12 @@ fn put_row(rooted: &Rooted, lists: &mut Lists, row: &Activity, place: u32) -> Op
     Some(())
 }
 
-impl Cuts {
+impl ForestCuts {
     /// Room for the cuts of forests of so many events.
-    pub fn new(alloc: Global, events: u32) -> Result<Cuts, AllocError> {
+    pub fn new(alloc: Global, events: u32) -> Result<ForestCuts, AllocError> {
         let places = (events as usize).saturating_add(1);
-        Ok(Cuts {
-            rooted: Rooted::new(alloc, events as usize)?,
+        Ok(ForestCuts {
+            rooted: OrderedForest::new(alloc, events as usize)?,
             lists: Lists::new(alloc, places, 0)?,
             order: (1..events.saturating_add(1)).collect(alloc)?,
         })
@@ -116,7 +116,7 @@ impl Cuts {
     }
 
     /// The rows that cross a cut.
-    pub fn of(&self, place: u32) -> Option<&[Crossing]> {
+    pub fn of(&self, place: u32) -> Option<&[SlackCrossing]> {
         self.lists.of(place)
     }
 }

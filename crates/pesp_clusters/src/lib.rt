@@ -11,9 +11,9 @@ mod lists;
 mod rooted;
 mod series;
 
-pub use activity::{Activity, Crossing, difference_within, sum_within};
+pub use activity::{Activity, SlackCrossing, difference_within, sum_within};
 pub use clusters::{Clusters, Ends};
-pub use cuts::Cuts;
-pub use forest::{Bent, Forest};
+pub use cuts::ForestCuts;
+pub use forest::{Bent, DrawnForest};
 pub use induced::{Induced, Placed};
 pub use rooted::NONE;

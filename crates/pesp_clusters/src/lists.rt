@@ -1,7 +1,7 @@
 //! The rows that cross at each of many places.
 
-use crate::activity::Crossing;
-use pesp_search_tools::guarded::{count_one, fill, number, set_number};
+use crate::activity::SlackCrossing;
+use pesp_forest::guarded::{count_one, fill, number, set_number};
 use std::alloc::{AllocError, Global};
 
 /// Where each place's crossings stand among all of them. While they are counted, `ends` has how many each place has.
@@ -9,11 +9,11 @@ use std::alloc::{AllocError, Global};
 pub(crate) struct Lists {
     starts: Vec<u32>,
     ends: Vec<u32>,
-    crossings: Vec<Crossing>,
+    crossings: Vec<SlackCrossing>,
 }
 
 /// What stands where no crossing was put yet.
-const NOTHING: Crossing = Crossing {
+const NOTHING: SlackCrossing = SlackCrossing {
     row: 0,
     grows: false,
 };
@@ -61,12 +61,12 @@ impl Lists {
     /// Puts a crossing at a place.
     pub(crate) fn put(&mut self, place: u32, row: u32, grows: bool) -> Option<()> {
         let end = number(&self.ends, place)?;
-        *self.crossings.get_mut(end as usize)? = Crossing { row, grows };
+        *self.crossings.get_mut(end as usize)? = SlackCrossing { row, grows };
         set_number(&mut self.ends, place, end.wrapping_add(1))
     }
 
     /// The crossings at a place.
-    pub(crate) fn of(&self, place: u32) -> Option<&[Crossing]> {
+    pub(crate) fn of(&self, place: u32) -> Option<&[SlackCrossing]> {
         let start = number(&self.starts, place)?;
         let end = number(&self.ends, place)?;
         self.crossings.get(start as usize..end as usize)

@@ -3,7 +3,7 @@
 use crate::activity::Activity;
 use crate::lists::Lists;
 use crate::series::Series;
-use pesp_search_tools::guarded::{fill, number, set_number};
+use pesp_forest::guarded::{fill, number, set_number};
 use std::alloc::{AllocError, Global};
 
 /// What stands for no event and no place.
@@ -12,7 +12,7 @@ pub const NONE: u32 = u32::MAX;
 /// A forest with its events in order from the roots down: each event has a place, from 1, and each place the one above it,
 /// or 0 at a root. `height` is by how many rows the longest way down from a place goes.
 #[derive(Drop)]
-pub(crate) struct Rooted {
+pub(crate) struct OrderedForest {
     star: Lists,
     place: Vec<u32>,
     events: Series<u32>,
@@ -22,11 +22,11 @@ pub(crate) struct Rooted {
     begin: Vec<u32>,
 }
 
-impl Rooted {
+impl OrderedForest {
     /// Room for forests of so many events.
-    pub(crate) fn new(alloc: Global, events: usize) -> Result<Rooted, AllocError> {
+    pub(crate) fn new(alloc: Global, events: usize) -> Result<OrderedForest, AllocError> {
         let places = events.saturating_add(1);
-        Ok(Rooted {
+        Ok(OrderedForest {
             star: Lists::new(alloc, events, events.saturating_mul(2))?,
             place: vec![in alloc; NONE; events]?,
             events: Series::new(alloc, 0u32, places)?,
@@ -73,7 +73,7 @@ impl Rooted {
         let mut event = from;
         for _ in 0..self.place.len() {
             if number(&self.place, event)? == NONE {
-                Rooted::hang(&mut self.place, &mut self.events, &mut self.above, event, 0)?;
+                OrderedForest::hang(&mut self.place, &mut self.events, &mut self.above, event, 0)?;
                 return Some(event);
             }
             event = event.wrapping_add(1);
@@ -87,7 +87,7 @@ impl Rooted {
         for crossing in self.star.of(event)? {
             let other = rows.get(crossing.row as usize)?.beyond(crossing.grows);
             if number(&self.place, other)? == NONE {
-                Rooted::hang(
+                OrderedForest::hang(
                     &mut self.place,
                     &mut self.events,
                     &mut self.above,

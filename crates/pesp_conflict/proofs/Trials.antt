@@ -7,7 +7,7 @@ use Rattle.pesp_problem.specs.declared.row.Row.{Row}
 use Rattle.pesp_problem.specs.Timetables.{Pesp, no_row, row_at, IsSatisfied, IsTimetable}
 use Rattle.pesp_truth.specs.Conflicts.{KeepsRow, KeepsRows, IsNeeded}
 use Rattle.pesp_conflict.specs.Findings.{AreAll, IsOpenOver}
-use Rattle.pesp_conflict.specs.Insides.{IsDecision, IsFirst}
+use Rattle.pesp_conflict.specs.Insides.{IsDecision, IsFirstDecision}
 use Rattle.pesp_conflict.specs.declared.decision.Decision.{Decision}
 use Rattle.pesp_conflict.specs.declared.decision.Decision.TheVariants as decisions
 use Rattle.pesp_conflict.proofs.Numbers.{HasFirst}
@@ -57,7 +57,7 @@ one_more_needed p listed needed row all one = All-append (IsNeeded p listed) nee
 
 -- what is decided of all rows is decided of the instance
 pub first_is : (p : Pesp) (steps : ℕ) (rows : List ℕ) (d : Decision) → AreAll (length p.rows) rows
-    → IsDecision p rows (IsOpenOver p steps rows) d → IsFirst p steps d
+    → IsDecision p rows (IsOpenOver p steps rows) d → IsFirstDecision p steps d
 first_is p steps rows (decisions.Conflict listed) all is = is.0
 first_is p steps rows decisions.Timetable all is = (is.0, keeps_all p rows is.0 all.all is.1)
 first_is p steps rows decisions.Undecided all is = record { rows = rows; all = all; searched = is }

@@ -40,18 +40,18 @@ IsTrial p listed (trials.Fewer rows) = IsConflict p rows.items × All (Contains 
 IsTrial p listed trials.Unknown = ⊤
 
 -- a conflict, and rows that are needed in it
-abbrev pub IsKnown : Pesp → Known → Type 0
-IsKnown p known = IsConflict p known.listed.items × All (IsNeeded p known.listed.items) known.needed.items
+abbrev pub ConflictIsKnown : Pesp → Known → Type 0
+ConflictIsKnown p known = IsConflict p known.listed.items × All (IsNeeded p known.listed.items) known.needed.items
 
 -- a conflict that is said to be needed whole only where it is
 abbrev pub IsShown : Pesp → Conflict → Type 0
 IsShown p found = IsConflict p found.rows.items × (found.each_needed ≡ true → All (IsNeeded p found.rows.items) found.rows.items)
 
 -- rows that are in conflict, or a timetable of the instance, or a search that used all its steps
-abbrev pub IsFirst : Pesp → ℕ → Decision → Type 0
-IsFirst p steps (decisions.Conflict rows) = IsConflict p rows.items
-IsFirst p steps decisions.Timetable = (times : List ℕ) × IsTimetable p times
-IsFirst p steps decisions.Undecided = IsUndecided p steps
+abbrev pub IsFirstDecision : Pesp → ℕ → Decision → Type 0
+IsFirstDecision p steps (decisions.Conflict rows) = IsConflict p rows.items
+IsFirstDecision p steps decisions.Timetable = (times : List ℕ) × IsTimetable p times
+IsFirstDecision p steps decisions.Undecided = IsUndecided p steps
 
 -- the listed numbers that aren't among some others
 abbrev pub rest_of : List ℕ → List ℕ → List ℕ

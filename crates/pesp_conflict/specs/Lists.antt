@@ -28,8 +28,8 @@ listed_fields naming l = decimal l.row ∷ signed_decimal l.label ∷ signed_dec
     ∷ signed_decimal l.lower ∷ signed_decimal l.upper ∷ name_fields naming l.tail l.head
 
 -- the records of these rows
-abbrev pub lines_of : Pesp → List ℕ → List Listed
-lines_of p rows = map (listed_of p) rows
+abbrev pub listed_lines : Pesp → List ℕ → List Listed
+listed_lines p rows = map (listed_of p) rows
 
 -- the header and a record for each of these rows
 abbrev pub list_text : Option (ℤ → List ℕ) → List Listed → List ℕ

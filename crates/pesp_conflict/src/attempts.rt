@@ -11,7 +11,7 @@ ghost use Rattle.pesp_conflict.specs.Insides.{IsTrial};
 use crate::decided_rows::decide;
 use crate::decision::{Decision, are_fit};
 use crate::lists::{are_among, has_others, without};
-use pesp_finder::TimesFinder;
+use pesp_forest::TimesFinder;
 use pesp_problem::Instance;
 use pesp_search::SolveRefusal;
 use std::alloc::Global;

@@ -8,7 +8,7 @@ ghost use Rattle.pesp_conflict.specs.Insides.{IsDecision};
 
 use crate::decision::{Decision, told_by};
 use crate::part::part_of;
-use pesp_finder::TimesFinder;
+use pesp_forest::TimesFinder;
 use pesp_problem::Instance;
 use pesp_search::{Nobody, SolveRefusal, solve_watched};
 use std::alloc::Global;

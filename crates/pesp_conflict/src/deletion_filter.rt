@@ -3,12 +3,12 @@
 ghost use Rattle.std.specs.Prelude.{◌≤◌, OnOk, IfErr};
 ghost use Rattle.pesp_problem.specs.declared.limits.TheConstants.{MOST_STEPS};
 ghost use Rattle.pesp_conflict.specs.Refusals.{IsConflictRefusal};
-ghost use Rattle.pesp_conflict.specs.Insides.{IsKnown};
+ghost use Rattle.pesp_conflict.specs.Insides.{ConflictIsKnown};
 
 use crate::attempts::try_without;
 use crate::known::{Known, mark, take};
 use crate::settings::{FIRST_GROUPS, HALVINGS};
-use pesp_finder::TimesFinder;
+use pesp_forest::TimesFinder;
 use pesp_problem::Instance;
 use pesp_search::SolveRefusal;
 use std::alloc::{AllocError, Global};
@@ -65,8 +65,8 @@ fn try_next<F: TimesFinder>(
     finder: &mut F,
 ) -> Result<bool, SolveRefusal>
     requires steps { steps ≤ MOST_STEPS }
-    requires known { IsKnown instance.now known.old }
-    ensures known { OnOk result (IsKnown instance.now known.new) }
+    requires known { ConflictIsKnown instance.now known.old }
+    ensures known { OnOk result (ConflictIsKnown instance.now known.new) }
     ensures refused { IfErr result (IsConflictRefusal instance.now steps) }
 {
     let group = next_group(alloc, instance, known, size)?;
@@ -93,8 +93,8 @@ fn sift<F: TimesFinder>(
     finder: &mut F,
 ) -> Result<(), SolveRefusal>
     requires steps { steps ≤ MOST_STEPS }
-    requires known { IsKnown instance.now known.old }
-    ensures known { OnOk result (IsKnown instance.now known.new) }
+    requires known { ConflictIsKnown instance.now known.old }
+    ensures known { OnOk result (ConflictIsKnown instance.now known.new) }
     ensures refused { IfErr result (IsConflictRefusal instance.now steps) }
 {
     for _ in 0..known.listed.len() {
@@ -114,8 +114,8 @@ pub fn sift_all<F: TimesFinder>(
     finder: &mut F,
 ) -> Result<(), SolveRefusal>
     requires steps { steps ≤ MOST_STEPS }
-    requires known { IsKnown instance.now known.old }
-    ensures known { OnOk result (IsKnown instance.now known.new) }
+    requires known { ConflictIsKnown instance.now known.old }
+    ensures known { OnOk result (ConflictIsKnown instance.now known.new) }
     ensures refused { IfErr result (IsConflictRefusal instance.now steps) }
 {
     let mut size = known.listed.len() / FIRST_GROUPS;

@@ -3,7 +3,7 @@
 ghost use Rattle.std.specs.Prelude.{◌≡◌, ◌↔◌, ◌++◌, All, Contains, IsTrue, OnOk};
 ghost use Rattle.pesp_problem.specs.Timetables.{Pesp};
 ghost use Rattle.pesp_conflict.specs.Findings.{IsConflict};
-ghost use Rattle.pesp_conflict.specs.Insides.{IsKnown, IsShown, IsTrial};
+ghost use Rattle.pesp_conflict.specs.Insides.{ConflictIsKnown, IsShown, IsTrial};
 
 use crate::attempts::Trial;
 use crate::finding::Conflict;
@@ -23,7 +23,7 @@ pub struct Known {
 
 /// What is known before any trial.
 pub fn known_of(alloc: Global, rows: Vec<u32>) -> Known
-    ensures { (p : Pesp) → IsConflict p rows.items → IsKnown p result }
+    ensures { (p : Pesp) → IsConflict p rows.items → ConflictIsKnown p result }
 {
     Known {
         listed: rows,
@@ -35,8 +35,8 @@ pub fn known_of(alloc: Global, rows: Vec<u32>) -> Known
 
 /// Takes up what a trial has shown.
 pub fn take(known: &mut Known, trial: Trial) -> Result<(), AllocError>
-    ensures { (p : Pesp) → IsKnown p known.old → IsTrial p known.old.listed.items trial
-        → OnOk result (IsKnown p known.new) }
+    ensures { (p : Pesp) → ConflictIsKnown p known.old → IsTrial p known.old.listed.items trial
+        → OnOk result (ConflictIsKnown p known.new) }
 {
     match trial {
         Trial::Needed(row) => known.needed.push(row)?,
@@ -48,7 +48,7 @@ pub fn take(known: &mut Known, trial: Trial) -> Result<(), AllocError>
 
 /// The group needs no further trial.
 pub fn mark(known: &mut Known, group: &[u32]) -> Result<(), AllocError>
-    ensures known { (p : Pesp) → IsKnown p known.old → OnOk result (IsKnown p known.new) }
+    ensures known { (p : Pesp) → ConflictIsKnown p known.old → OnOk result (ConflictIsKnown p known.new) }
     ensures tried { OnOk result (known.new.tried.items ≡ known.old.tried.items ++ group.now) }
 {
     for row in group {
@@ -59,7 +59,7 @@ pub fn mark(known: &mut Known, group: &[u32]) -> Result<(), AllocError>
 
 /// The conflict, once no further trial is made.
 pub fn conflict_of(known: Known) -> Conflict
-    ensures shown { (p : Pesp) → IsKnown p known → IsShown p result }
+    ensures shown { (p : Pesp) → ConflictIsKnown p known → IsShown p result }
     ensures rows { result.rows ≡ known.listed }
     ensures needed { IsTrue result.each_needed ↔ All (Contains known.needed.items) known.listed.items }
 {

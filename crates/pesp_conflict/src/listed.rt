@@ -39,7 +39,7 @@ fn listed_at(instance: &Instance, number: u32) -> Listed
 /// What is told of these rows.
 pub fn lines_of(alloc: Global, instance: &Instance, rows: &[u32]) -> Result<Vec<Listed>, AllocError>
     requires { All (Names (length instance.now.rows)) rows.now }
-    ensures { IfOk result (λ lines. lines.items ≡ spec.lines_of instance.now rows.now) }
+    ensures { IfOk result (λ lines. lines.items ≡ spec.listed_lines instance.now rows.now) }
 {
     let mut lines = Vec::new(alloc);
     for number in rows {

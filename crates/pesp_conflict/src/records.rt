@@ -132,7 +132,7 @@ pub fn text_of_listed(
 ) -> Result<Vec<u8>, Memory>
     requires { All (Numbers (length instance.now.rows)) rows.now }
     ensures { IfOk result (λ text. text.items
-        ≡ list_text (naming_of (option_copied names.entry)) (spec.lines_of instance.now rows.now)) }
+        ≡ list_text (naming_of (option_copied names.entry)) (spec.listed_lines instance.now rows.now)) }
 {
     let lines = lines_of(alloc, instance, rows)?;
     text_of(alloc, names, &lines)

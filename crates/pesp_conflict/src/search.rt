@@ -4,7 +4,7 @@ ghost use Rattle.std.specs.Prelude.{◌≤◌, IfOk, IfErr};
 ghost use Rattle.pesp_problem.specs.declared.limits.TheConstants.{MOST_STEPS};
 ghost use Rattle.pesp_conflict.specs.Refusals.{IsConflictRefusal};
 ghost use Rattle.pesp_conflict.specs.Findings.{IsConflict, IsFinding};
-ghost use Rattle.pesp_conflict.specs.Insides.{IsFirst, IsShown};
+ghost use Rattle.pesp_conflict.specs.Insides.{IsFirstDecision, IsShown};
 
 use crate::decided_rows::decide;
 use crate::decision::Decision;
@@ -13,7 +13,7 @@ use crate::finding::{Conflict, Finding};
 use crate::known::{conflict_of, known_of};
 use crate::lists::all_rows;
 use crate::settings::TRIAL_STEPS;
-use pesp_finder::TimesFinder;
+use pesp_forest::TimesFinder;
 use pesp_problem::Instance;
 use pesp_search::SolveRefusal;
 use std::alloc::Global;
@@ -26,7 +26,7 @@ fn decide_all<F: TimesFinder>(
     finder: &mut F,
 ) -> Result<Decision, SolveRefusal>
     requires { steps ≤ MOST_STEPS }
-    ensures decided { IfOk result (IsFirst instance.now steps) }
+    ensures decided { IfOk result (IsFirstDecision instance.now steps) }
     ensures refused { IfErr result (IsConflictRefusal instance.now steps) }
 {
     let rows = all_rows(alloc, instance.rows().len() as u32)?;

@@ -8,12 +8,12 @@ use std::fmt;
 
 /// An event as it is called in a walk: by its station, else by its name, else by its label.
 #[derive(Clone, Copy)]
-struct Called<'a> {
+struct StationLabel<'a> {
     label: i64,
     names: &'a Names,
 }
 
-impl<'a> Called<'a> {
+impl<'a> StationLabel<'a> {
     /// Its station; empty where none is told.
     fn station(self) -> &'a str {
         match self.names.find(self.label) {
@@ -23,7 +23,7 @@ impl<'a> Called<'a> {
     }
 }
 
-impl fmt::Display for Called<'_> {
+impl fmt::Display for StationLabel<'_> {
     fn fmt<W: fmt::Write>(&self, f: &mut fmt::Formatter<W>) -> fmt::Result {
         let label = self.label;
         let Some(told) = self.names.find(label) else {
@@ -40,14 +40,14 @@ impl fmt::Display for Called<'_> {
 
 /// The least and the greatest sum of the durations along a walk: what is passed back counts as less.
 #[derive(Clone, Copy)]
-struct Sum {
+struct DurationBounds {
     least: i64,
     greatest: i64,
 }
 
 /// The sum along a walk.
-fn sum_of(walk: &[Passed<'_>]) -> Sum {
-    let mut sum = Sum {
+fn sum_of(walk: &[Passed<'_>]) -> DurationBounds {
+    let mut sum = DurationBounds {
         least: 0,
         greatest: 0,
     };
@@ -74,14 +74,14 @@ fn upward<'a>(alloc: Global, walk: Vec<Passed<'a>>) -> Result<Vec<Passed<'a>>, A
 }
 
 /// The event from which a walk passes a row.
-fn called_from<'a>(instance: &Instance, names: &'a Names, passed: &Passed<'_>) -> Called<'a> {
+fn called_from<'a>(instance: &Instance, names: &'a Names, passed: &Passed<'_>) -> StationLabel<'a> {
     let event = if passed.forward {
         passed.row.tail
     } else {
         passed.row.head
     };
     let label = instance.events().get(event as usize).copied().unwrap_or(0);
-    Called { label, names }
+    StationLabel { label, names }
 }
 
 /// Adds the events of a walk, from the first one on and back to it; of several in turn at one station the first one.
@@ -109,8 +109,8 @@ fn add_events(
 }
 
 /// Adds what is wrong with a sum: what is wanted, and the multiples of the period on both sides.
-fn add_wanted(words: &mut String, period: u32, sum: Sum) -> Result<(), AllocError> {
-    let Sum { least, greatest } = sum;
+fn add_wanted(words: &mut String, period: u32, sum: DurationBounds) -> Result<(), AllocError> {
+    let DurationBounds { least, greatest } = sum;
     let length = i64::from(period.max(1));
     let below = greatest.div_euclid(length).saturating_mul(length);
     let above = below.saturating_add(length);

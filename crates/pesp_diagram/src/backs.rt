@@ -1,7 +1,7 @@
 //! Events of trains that go back.
 
 use pesp_problem::{Instance, Row};
-use pesp_railway::Network;
+use pesp_railway::RailwayNetwork;
 use std::alloc::{AllocError, Global};
 
 /// Of each event, by its number in the instance, whether a train goes back from it or to it.
@@ -11,7 +11,7 @@ pub struct Backs {
 }
 
 /// Whether an activity is a train that goes back along its line.
-fn is_back(network: &Network<'_>, row: &Row) -> bool {
+fn is_back(network: &RailwayNetwork<'_>, row: &Row) -> bool {
     let (Some(tail), Some(head)) = (network.at(row.tail), network.at(row.head)) else {
         return false;
     };
@@ -32,7 +32,7 @@ impl Backs {
     pub fn of(
         alloc: Global,
         instance: &Instance,
-        network: &Network<'_>,
+        network: &RailwayNetwork<'_>,
     ) -> Result<Backs, AllocError> {
         let mut backs = Backs::none(alloc, instance)?;
         for row in instance.rows() {

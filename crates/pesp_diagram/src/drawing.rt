@@ -8,16 +8,16 @@ ghost use Rattle.pesp_problem.specs.Timetables.{IsTimetable};
 ghost use Rattle.pesp_report.specs.Reporting.{IfBlamed, Refuses, UnlessBlamed};
 
 use crate::frame::{
-    Column, open_picture, open_plot, write_front, write_left, write_left_words, write_legend,
+    PlotColumn, open_picture, open_plot, write_front, write_left, write_left_words, write_legend,
     write_scale, write_stations,
 };
 use crate::heights::Heights;
 use crate::layout::{Corner, Layout};
-use crate::marks::Marks;
-use crate::pieces::{Piece, write_piece};
+use crate::marks::MarkCounts;
+use crate::pieces::{DrawnPiece, write_piece};
 use crate::scene::Scene;
 use pesp_problem::Instance;
-use pesp_railway::{Line, Network};
+use pesp_railway::{Line, RailwayNetwork};
 use pesp_report::{Names, ReportRefusal, cost_of};
 use pesp_stream::{Bytes, Sink, print_to};
 use std::alloc::{AllocError, Global};
@@ -91,11 +91,11 @@ fn write_diagrams(
     cost: u64,
 ) -> Result<(), AllocError> {
     let network = match along {
-        Some(stations) => Network::along(alloc, instance, names, stations)?,
-        None => Network::of(alloc, instance, names)?,
+        Some(stations) => RailwayNetwork::along(alloc, instance, names, stations)?,
+        None => RailwayNetwork::of(alloc, instance, names)?,
     };
     let scene = Scene::of(alloc, instance, times, network)?;
-    let column = Column::of(&scene.network.lines);
+    let column = PlotColumn::of(&scene.network.lines);
     let layout = Layout::of(alloc, &scene.heights, column.width)?;
     write_front(
         text,
@@ -115,7 +115,7 @@ fn write_lines(
     alloc: Global,
     text: &mut String,
     scene: &Scene<'_, '_, '_>,
-    column: Column,
+    column: PlotColumn,
     layout: &Layout,
 ) -> Result<(), AllocError> {
     for (count, line) in scene.network.lines.iter().enumerate() {
@@ -135,7 +135,7 @@ fn write_line(
     alloc: Global,
     text: &mut String,
     scene: &Scene<'_, '_, '_>,
-    column: Column,
+    column: PlotColumn,
     line: &Line<'_>,
     heights: &Heights,
     count: usize,
@@ -143,9 +143,9 @@ fn write_line(
     write_stations(text, column, line, heights, scene.network.is_corridor)?;
     write_scale(text, column, heights, scene.instance.period())?;
     open_plot(text, column, heights)?;
-    let mut marks = Marks::none(alloc, line.stations.len())?;
+    let mut marks = MarkCounts::none(alloc, line.stations.len())?;
     for row in scene.instance.rows() {
-        if let Some(piece) = Piece::of(scene, count, row) {
+        if let Some(piece) = DrawnPiece::of(scene, count, row) {
             write_piece(text, scene, heights, &mut marks, &piece)?;
         }
     }
@@ -160,9 +160,9 @@ pub fn write_pictures(
     times: &[u32],
     names: &Names,
 ) -> Result<(), AllocError> {
-    let network = Network::of(alloc, instance, names)?;
+    let network = RailwayNetwork::of(alloc, instance, names)?;
     let scene = Scene::of(alloc, instance, times, network)?;
-    let column = Column::of(&scene.network.lines);
+    let column = PlotColumn::of(&scene.network.lines);
     write_legend(text)?;
     for (count, line) in scene.network.lines.iter().enumerate() {
         let Some(heights) = scene.heights.get(count) else {

@@ -4,7 +4,7 @@ use crate::heights::Heights;
 use crate::layout::Layout;
 use crate::places::{Across, PLOT};
 use pesp_draw::{Escaped, Shortened, step_for};
-use pesp_railway::{Line, Network};
+use pesp_railway::{Line, RailwayNetwork};
 use std::alloc::AllocError;
 
 /// The fewest pixels for the names of stations.
@@ -46,7 +46,7 @@ const CORRIDOR: &str =
 
 /// How large a diagram is, in pixels: where its plot begins from the left, and how wide it is with what stands beside it.
 #[derive(Clone, Copy)]
-pub struct Column {
+pub struct PlotColumn {
     left: u32,
     pub width: u32,
 }
@@ -85,15 +85,15 @@ pub fn line_height(heights: &Heights) -> u32 {
     heights.plot().saturating_add(HEADING + BELOW)
 }
 
-impl Column {
+impl PlotColumn {
     /// The column of diagrams of these lines.
-    pub fn of(lines: &[Line<'_>]) -> Column {
+    pub fn of(lines: &[Line<'_>]) -> PlotColumn {
         let mut widest = LEAST_NAMES;
         for line in lines {
             widest = widest.max(widest_of(line));
         }
         let left = widest.saturating_add(2 * MARGIN);
-        Column {
+        PlotColumn {
             left,
             width: left.saturating_add(PLOT + 3 * MARGIN),
         }
@@ -111,9 +111,9 @@ fn open_svg(text: &mut String, width: u32, height: u32) -> Result<(), AllocError
 /// Writes the picture's beginning: its size, its style, its title and what the lines and marks mean.
 pub fn write_front(
     text: &mut String,
-    column: Column,
+    column: PlotColumn,
     layout: &Layout,
-    network: &Network<'_>,
+    network: &RailwayNetwork<'_>,
     period: u32,
     cost: u64,
 ) -> Result<(), AllocError> {
@@ -148,7 +148,7 @@ pub fn write_legend(text: &mut String) -> Result<(), AllocError> {
 /// Opens the picture of a line.
 pub fn open_picture(
     text: &mut String,
-    column: Column,
+    column: PlotColumn,
     line: &Line<'_>,
     heights: &Heights,
 ) -> Result<(), AllocError> {
@@ -161,7 +161,7 @@ pub fn open_picture(
 }
 
 /// Which events stand in no diagram.
-fn words_for_left(network: &Network<'_>) -> &'static str {
+fn words_for_left(network: &RailwayNetwork<'_>) -> &'static str {
     if network.is_corridor {
         "Events at no station of these"
     } else {
@@ -170,7 +170,11 @@ fn words_for_left(network: &Network<'_>) -> &'static str {
 }
 
 /// Writes how many events stand in no diagram, below a height.
-pub fn write_left(text: &mut String, network: &Network<'_>, y: u32) -> Result<(), AllocError> {
+pub fn write_left(
+    text: &mut String,
+    network: &RailwayNetwork<'_>,
+    y: u32,
+) -> Result<(), AllocError> {
     let (left, which) = (network.left, words_for_left(network));
     if left == 0 {
         return Ok(());
@@ -182,7 +186,7 @@ pub fn write_left(text: &mut String, network: &Network<'_>, y: u32) -> Result<()
 }
 
 /// Writes how many events stand in no diagram, as a sentence of HTML.
-pub fn write_left_words(text: &mut String, network: &Network<'_>) -> Result<(), AllocError> {
+pub fn write_left_words(text: &mut String, network: &RailwayNetwork<'_>) -> Result<(), AllocError> {
     let (left, which) = (network.left, words_for_left(network));
     if left == 0 {
         return Ok(());
@@ -202,7 +206,7 @@ fn write_whole_name(text: &mut String, station: &str) -> Result<(), AllocError> 
 /// Writes the name of a line and its stations.
 pub fn write_stations(
     text: &mut String,
-    column: Column,
+    column: PlotColumn,
     line: &Line<'_>,
     heights: &Heights,
     is_corridor: bool,
@@ -231,7 +235,11 @@ pub fn write_stations(
 }
 
 /// Opens the plot of a line: a part of the picture in which what lies before 0 or behind the period's end isn't seen.
-pub fn open_plot(text: &mut String, column: Column, heights: &Heights) -> Result<(), AllocError> {
+pub fn open_plot(
+    text: &mut String,
+    column: PlotColumn,
+    heights: &Heights,
+) -> Result<(), AllocError> {
     let left = column.left;
     let height = heights.plot();
     writeln!(
@@ -257,7 +265,7 @@ fn has_room(period: u32, step: u32, time: u32) -> bool {
 /// Writes a line for each step of the period and for its end, with its time above.
 pub fn write_scale(
     text: &mut String,
-    column: Column,
+    column: PlotColumn,
     heights: &Heights,
     period: u32,
 ) -> Result<(), AllocError> {

@@ -20,7 +20,7 @@ pub struct Heights {
 
 /// How long the way between the first station and the last is, and how many pixels it takes.
 #[derive(Clone, Copy)]
-struct Scale {
+struct StationScale {
     pixels: u64,
     whole: u64,
 }
@@ -46,20 +46,20 @@ fn shortest_leg(distances: &[u32]) -> u32 {
 }
 
 /// The scale of stations at these distances from the first one. The shortest leg can be read, if that isn't too high.
-fn scale_of(distances: &[u32]) -> Scale {
+fn scale_of(distances: &[u32]) -> StationScale {
     let whole = u64::from(distances.last().copied().unwrap_or(0));
     let equal = equal_pixels(distances.len());
     let wanted = whole
         .saturating_mul(u64::from(LEAST))
         .checked_div(u64::from(shortest_leg(distances)))
         .unwrap_or(equal);
-    Scale {
+    StationScale {
         pixels: wanted.max(equal).min(equal.saturating_mul(HIGHER)),
         whole,
     }
 }
 
-impl Scale {
+impl StationScale {
     /// How many pixels a leg takes.
     fn pixels_of(self, leg: u32) -> u32 {
         let pixels = u64::from(leg)

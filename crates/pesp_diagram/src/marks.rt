@@ -25,19 +25,19 @@ pub struct Spot {
 
 /// How many marks stand at each place of a line's diagram.
 #[derive(Drop)]
-pub struct Marks {
+pub struct MarkCounts {
     counts: Vec<u32>,
 }
 
-impl Marks {
+impl MarkCounts {
     /// No marks, at so many stations.
-    pub fn none(alloc: Global, stations: usize) -> Result<Marks, AllocError> {
+    pub fn none(alloc: Global, stations: usize) -> Result<MarkCounts, AllocError> {
         let places = stations.saturating_mul(PLACES as usize);
         let mut counts = Vec::new(alloc);
         for _ in 0..places {
             counts.push(0)?;
         }
-        Ok(Marks { counts })
+        Ok(MarkCounts { counts })
     }
 
     /// How many marks stood at a place, which has one more now.

@@ -1,12 +1,12 @@
 //! What is drawn of an activity.
 
 use crate::heights::Heights;
-use crate::marks::{Marks, Spot};
+use crate::marks::{MarkCounts, Spot};
 use crate::places::Across;
 use crate::scene::Scene;
 use pesp_draw::Escaped;
 use pesp_problem::{Instance, Row};
-use pesp_railway::{Kind, Network, Place, duration_of, kind_on};
+use pesp_railway::{ActivityKind, RailwayNetwork, StationPlace, duration_of, kind_on};
 use std::alloc::AllocError;
 
 /// How often a stretch of time is drawn at most: once for each period into which it reaches.
@@ -17,24 +17,24 @@ const LOWER: u32 = 4;
 
 /// An activity in the diagram of a line, from its time at its tail on.
 #[derive(Clone, Copy)]
-pub struct Piece<'a> {
-    kind: Kind,
+pub struct DrawnPiece<'a> {
+    kind: ActivityKind,
     row: &'a Row,
-    tail: Place,
-    head: Place,
+    tail: StationPlace,
+    head: StationPlace,
     time: i64,
     duration: i64,
 }
 
-impl<'a> Piece<'a> {
+impl<'a> DrawnPiece<'a> {
     /// What is drawn of an activity in the diagram of a line.
-    pub fn of(scene: &Scene<'_, '_, '_>, line: usize, row: &'a Row) -> Option<Piece<'a>> {
+    pub fn of(scene: &Scene<'_, '_, '_>, line: usize, row: &'a Row) -> Option<DrawnPiece<'a>> {
         let (instance, times, network) = (scene.instance, scene.times, &scene.network);
         let tail = network.at(row.tail)?;
         let head = network.at(row.head)?;
         let kind = kind_on(network, line, instance.period(), row, tail, head)?;
         let time = i64::from(times.get(row.tail as usize).copied()?);
-        Some(Piece {
+        Some(DrawnPiece {
             kind,
             row,
             tail,
@@ -46,16 +46,16 @@ impl<'a> Piece<'a> {
 
     /// Whether it is drawn as a mark.
     fn is_mark(&self) -> bool {
-        self.kind == Kind::Leave || self.kind == Kind::Join
+        self.kind == ActivityKind::Leave || self.kind == ActivityKind::Join
     }
 }
 
 /// Writes all that is known of an activity.
 fn write_title(
     text: &mut String,
-    network: &Network<'_>,
+    network: &RailwayNetwork<'_>,
     instance: &Instance,
-    piece: &Piece<'_>,
+    piece: &DrawnPiece<'_>,
 ) -> Result<(), AllocError> {
     let Row {
         label,
@@ -72,7 +72,7 @@ fn write_title(
         Escaped(network.line_of_event(piece.row.head)),
         Escaped(network.station(piece.head)),
     );
-    let Piece { time, duration, .. } = *piece;
+    let DrawnPiece { time, duration, .. } = *piece;
     let end = time
         .saturating_add(duration)
         .rem_euclid(i64::from(instance.period().max(1)));
@@ -107,8 +107,8 @@ fn write_stretch(
 }
 
 /// How far below its station a piece stands, in pixels: 0 but for a train that goes back and stands there.
-fn lowered(scene: &Scene<'_, '_, '_>, piece: &Piece<'_>) -> u32 {
-    if piece.kind == Kind::Stand && scene.backs.has(piece.row) {
+fn lowered(scene: &Scene<'_, '_, '_>, piece: &DrawnPiece<'_>) -> u32 {
+    if piece.kind == ActivityKind::Stand && scene.backs.has(piece.row) {
         LOWER
     } else {
         0
@@ -116,11 +116,11 @@ fn lowered(scene: &Scene<'_, '_, '_>, piece: &Piece<'_>) -> u32 {
 }
 
 /// From when to when a piece is drawn: what keeps two trains apart between those that are nearer to each other.
-fn stretch_of(period: u32, piece: &Piece<'_>) -> (i64, i64) {
+fn stretch_of(period: u32, piece: &DrawnPiece<'_>) -> (i64, i64) {
     let length = i64::from(period.max(1));
     let to = piece.time.saturating_add(piece.duration);
     let rest = piece.duration.saturating_neg().rem_euclid(length);
-    if piece.kind == Kind::Apart && rest < length.saturating_sub(rest) {
+    if piece.kind == ActivityKind::Apart && rest < length.saturating_sub(rest) {
         (to, to.saturating_add(rest))
     } else {
         (piece.time, to)
@@ -132,13 +132,13 @@ fn write_train(
     text: &mut String,
     scene: &Scene<'_, '_, '_>,
     heights: &Heights,
-    piece: &Piece<'_>,
+    piece: &DrawnPiece<'_>,
 ) -> Result<(), AllocError> {
     let class = match piece.kind {
-        Kind::Run if piece.tail.station > piece.head.station => "back",
-        Kind::Run => "run",
-        Kind::Wait => "wait",
-        Kind::Apart => "apart",
+        ActivityKind::Run if piece.tail.station > piece.head.station => "back",
+        ActivityKind::Run => "run",
+        ActivityKind::Wait => "wait",
+        ActivityKind::Apart => "apart",
         _ => "stand",
     };
     let period = scene.instance.period();
@@ -154,10 +154,10 @@ fn write_train(
 /// Writes when a train leaves a station, with its line, and when it comes to the next one: beside its ends, within the period.
 fn write_minutes(
     text: &mut String,
-    network: &Network<'_>,
+    network: &RailwayNetwork<'_>,
     heights: &Heights,
     period: u32,
-    piece: &Piece<'_>,
+    piece: &DrawnPiece<'_>,
 ) -> Result<(), AllocError> {
     let length = i64::from(period.max(1));
     let end = piece.time.saturating_add(piece.duration).rem_euclid(length);
@@ -185,12 +185,12 @@ fn write_mark(
     text: &mut String,
     heights: &Heights,
     period: u32,
-    marks: &mut Marks,
-    piece: &Piece<'_>,
+    marks: &mut MarkCounts,
+    piece: &DrawnPiece<'_>,
 ) -> Result<(), AllocError> {
     let length = i64::from(period.max(1));
     let end = piece.time.saturating_add(piece.duration).rem_euclid(length);
-    let (class, radius, time, place) = if piece.kind == Kind::Leave {
+    let (class, radius, time, place) = if piece.kind == ActivityKind::Leave {
         ("leave", 3_u32, piece.time, piece.tail)
     } else {
         ("join", 4_u32, end, piece.head)
@@ -207,8 +207,8 @@ pub fn write_piece(
     text: &mut String,
     scene: &Scene<'_, '_, '_>,
     heights: &Heights,
-    marks: &mut Marks,
-    piece: &Piece<'_>,
+    marks: &mut MarkCounts,
+    piece: &DrawnPiece<'_>,
 ) -> Result<(), AllocError> {
     let (instance, network) = (scene.instance, &scene.network);
     text.push_str("<g>")?;
@@ -219,7 +219,7 @@ pub fn write_piece(
         write_train(text, scene, heights, piece)?;
     }
     text.push_str("</g>\n")?;
-    if network.is_corridor && piece.kind == Kind::Run {
+    if network.is_corridor && piece.kind == ActivityKind::Run {
         write_minutes(text, network, heights, instance.period(), piece)?;
     }
     Ok(())

@@ -3,7 +3,7 @@
 use crate::backs::Backs;
 use crate::heights::Heights;
 use pesp_problem::Instance;
-use pesp_railway::Network;
+use pesp_railway::RailwayNetwork;
 use std::alloc::{AllocError, Global};
 
 /// A timetable of an instance, with its lines, the events of trains that go back, and where the stations of each line stand.
@@ -11,7 +11,7 @@ use std::alloc::{AllocError, Global};
 pub struct Scene<'i, 't, 'n> {
     pub instance: &'i Instance,
     pub times: &'t [u32],
-    pub network: Network<'n>,
+    pub network: RailwayNetwork<'n>,
     pub backs: Backs,
     pub heights: Vec<Heights>,
 }
@@ -22,7 +22,7 @@ impl<'i, 't, 'n> Scene<'i, 't, 'n> {
         alloc: Global,
         instance: &'i Instance,
         times: &'t [u32],
-        network: Network<'n>,
+        network: RailwayNetwork<'n>,
     ) -> Result<Scene<'i, 't, 'n>, AllocError> {
         let backs = Backs::of(alloc, instance, &network)?;
         let heights = Heights::of_all(alloc, &network.lines)?;

@@ -9,7 +9,7 @@ use Rattle.pesp_problem.specs.declared.arc.Arc.{Arc}
 use Rattle.pesp_problem.specs.Families.{IsWithin}
 use Rattle.pesp_domains.specs.Bits.{bit}
 use Rattle.pesp_domains.specs.Sets.{set_of, family, IsClear, Narrows, Revises, Changes}
-use Rattle.pesp_domains.specs.Domains.{SetRows, width_of, family_of, AreKept, HasRoom, Revised}
+use Rattle.pesp_domains.specs.Domains.{SetRows, width_of, family_of, AreKept, HasScratchRoom, Revised}
 use Rattle.pesp_domains.proofs.Revising.{is_one, one_is}
 use Rattle.pesp_domains.proofs.Words.{bit-lt, cleared}
 
@@ -89,7 +89,7 @@ pub narrows_at : (t v w kept other first count : ℕ) (xs ys : List ℕ) → v �
     → Narrows t v kept other first count xs ys → Narrows t w kept other first count xs ys
 narrows_at t v w kept other first count xs ys e h = let P : ℕ → Type 0 = λ n. Narrows t n kept other first count xs ys in subst P e h
 
-pub room_is : (t a b x y : ℕ) → x ≡ a → y ≡ b → HasRoom t a b → HasRoom t x y
+pub room_is : (t a b x y : ℕ) → x ≡ a → y ≡ b → HasScratchRoom t a b → HasScratchRoom t x y
 room_is t a b x y e f h = record { once = e ∙ h.once; twice = let q = h.twice in omega arith; few = let q = h.few in omega arith }
 
 -- a bit of an event's words is a difference of its set

@@ -8,7 +8,7 @@ use Rattle.pesp_problem.specs.declared.arc.Arc.{Arc}
 use Rattle.pesp_problem.specs.Timetables.{remainder}
 use Rattle.pesp_problem.specs.Families.{ArePartners, remainder_of}
 use Rattle.pesp_domains.specs.Bits.{bit, KeepsSupported}
-use Rattle.pesp_domains.specs.Partners.{AreBelow, KeepsTails, KeepsHeads, greatest, first_ahead, first_back, count_of, loop_count}
+use Rattle.pesp_domains.specs.Partners.{NoBitAbove, KeepsTails, KeepsHeads, greatest, first_ahead, first_back, count_in_range, loop_count}
 use Rattle.pesp_domains.specs.Partners as spec
 use Rattle.pesp_problem.proofs.Shifts.{LeadBoth, lead_both, loop_remainder, mod_same}
 
@@ -18,10 +18,10 @@ remainder_is t (pos a) = refl
 remainder_is t (negsuc a) = refl
 
 both : (t : ℕ) (arc : Arc) (range : ℕ × ℕ) → 0 < t
-    → LeadBoth t arc range.0 range.1 (first_ahead t arc range) (first_back t arc range) (count_of t range)
+    → LeadBoth t arc range.0 range.1 (first_ahead t arc range) (first_back t arc range) (count_in_range t range)
 both t arc range p = lead_both t (remainder t arc.lower) arc range.0 range.1 p (remainder_is t arc.lower)
 
-below : (t d : ℕ) (set : List ℕ) → AreBelow t set → bit set d ≡ 1 → d < t
+below : (t d : ℕ) (set : List ℕ) → NoBitAbove t set → bit set d ≡ 1 → d < t
 below t d set h s = elim (split d t) [ inl l ↦ l | inr m ↦ let z = h d m in absurd (omega (arith, z, s)) ]
   where
     split : (n k : ℕ) → (n < k) ⊎ (k ≤ n)
@@ -31,8 +31,8 @@ along : (set : List ℕ) (a b : ℕ) → a ≡ b → bit set a ≡ 1 → bit set
 along set a b e s = sym (ap (λ (m : ℕ). bit set m) e) ∙ s
 
 pub keeps_tails : (t : ℕ) (arc : Arc) (range : ℕ × ℕ) (tails heads new : List ℕ) → 0 < t → arc.tail ≢ arc.head
-    → AreBelow t tails → AreBelow t heads → KeepsSupported t (first_ahead t arc range)
-    (count_of t range) tails heads new → KeepsTails t arc range tails heads new
+    → NoBitAbove t tails → NoBitAbove t heads → KeepsSupported t (first_ahead t arc range)
+    (count_in_range t range) tails heads new → KeepsTails t arc range tails heads new
 keeps_tails t arc range tails heads new p ne h k w =
     let lead = both t arc range p in
     record {
@@ -47,8 +47,8 @@ keeps_tails t arc range tails heads new p ne h k w =
     }
 
 pub keeps_heads : (t : ℕ) (arc : Arc) (range : ℕ × ℕ) (tails heads new : List ℕ) → 0 < t → arc.tail ≢ arc.head
-    → AreBelow t tails → AreBelow t heads → KeepsSupported t (first_back t arc range)
-    (count_of t range) heads tails new → KeepsHeads t arc range tails heads new
+    → NoBitAbove t tails → NoBitAbove t heads → KeepsSupported t (first_back t arc range)
+    (count_in_range t range) heads tails new → KeepsHeads t arc range tails heads new
 keeps_heads t arc range tails heads new p ne h k w =
     let lead = both t arc range p in
     record {
@@ -93,7 +93,7 @@ is_partner : (t : ℕ) (arc : Arc) (range : ℕ × ℕ) (d : ℕ) → 0 < t → 
 is_partner t arc range d p l a b = let r = own t arc d p l in record { low = omega arith; high = omega arith; loop = λ e. refl }
 
 pub keeps_loop_tails : (t : ℕ) (arc : Arc) (range : ℕ × ℕ) (set new : List ℕ) → 0 < t → arc.tail ≡ arc.head
-    → AreBelow t set → KeepsSupported t 0 (loop_count t arc range) set set new → KeepsTails t arc range set set new
+    → NoBitAbove t set → KeepsSupported t 0 (loop_count t arc range) set set new → KeepsTails t arc range set set new
 keeps_loop_tails t arc range set new p e h w =
     let count = counted t arc range in
     record {
@@ -113,7 +113,7 @@ keeps_loop_tails t arc range set new p e h w =
     }
 
 pub keeps_loop_heads : (t : ℕ) (arc : Arc) (range : ℕ × ℕ) (set new : List ℕ) → 0 < t → arc.tail ≡ arc.head
-    → AreBelow t set → KeepsSupported t 0 (loop_count t arc range) set set new → KeepsHeads t arc range set set new
+    → NoBitAbove t set → KeepsSupported t 0 (loop_count t arc range) set set new → KeepsHeads t arc range set set new
 keeps_loop_heads t arc range set new p e h w =
     let tails = keeps_loop_tails t arc range set new p e h w in
     record {

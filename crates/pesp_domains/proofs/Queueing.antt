@@ -5,12 +5,12 @@ use Rattle.std.proofs.lemmas.Bool.{cases_eq, cases_lt}
 use Rattle.std.proofs.lemmas.List.Elements.{All-nil}
 use Rattle.pesp_domains.specs.declared.waiting.Waiting.{Waiting}
 use Rattle.pesp_network.specs.Chains.{IsNext}
-use Rattle.pesp_domains.specs.Waiting.{waits_at, Grows, AreListed}
+use Rattle.pesp_domains.specs.Waiting.{waits_at, WaitingGrows, WaitingAreListed}
 
-pub grows_none : (w : Waiting) → Grows w w
+pub grows_none : (w : Waiting) → WaitingGrows w w
 grows_none w = record { long = refl; still = λ row h. h; listed = λ row h. inl h; kept = λ row h. h; below = λ h. h }
 
-pub grows_more : (u v w : Waiting) → Grows u v → Grows v w → Grows u w
+pub grows_more : (u v w : Waiting) → WaitingGrows u v → WaitingGrows v w → WaitingGrows u w
 grows_more u v w a b = record {
   long = b.long ∙ a.long;
   still = λ row h. b.still row (a.still row h);
@@ -21,7 +21,7 @@ grows_more u v w a b = record {
 }
 
 pub woken_more : (n : ℕ) (T H : ℕ → ℕ) (event but row next : ℕ) (old new : Waiting) → IsNext T H event row next
-    → Grows old new → (row ≢ but → waits_at new (row - 1) ≡ true)
+    → WaitingGrows old new → (row ≢ but → waits_at new (row - 1) ≡ true)
     → ((k : ℕ) → row < k → k ≤ n → (T k ≡ event) ⊎ (H k ≡ event) → k ≢ but → waits_at old (k - 1) ≡ true)
     → (k : ℕ) → next < k → k ≤ n → (T k ≡ event) ⊎ (H k ≡ event) → k ≢ but → waits_at new (k - 1) ≡ true
 woken_more n T H event but row next old new o g here before k l m e ne =
@@ -37,14 +37,14 @@ woken_more n T H event but row next old new o g here before k l m e ne =
     apart : (k row : ℕ) → row ≤ k → k ≢ row → row < k
     apart k row a q = omega arith
 
-pub listed_none : (n : ℕ) (w : Waiting) → vec_len w.flags ≡ n → ((row : ℕ) → waits_at w row ≡ false) → w.rows.items ≡ [] → AreListed n w
+pub listed_none : (n : ℕ) (w : Waiting) → vec_len w.flags ≡ n → ((row : ℕ) → waits_at w row ≡ false) → w.rows.items ≡ [] → WaitingAreListed n w
 listed_none n w l f e = record {
   long = l;
   listed = λ row h. let z : true ≡ false = sym h ∙ f row in cc;
   below = let P : List ℕ → Type 0 = λ rs. All (λ (row : ℕ). row < n) rs in subst P (sym e) (All-nil (λ (row : ℕ). row < n));
 }
 
-pub listed_more : (n : ℕ) (v w : Waiting) → AreListed n v → Grows v w → AreListed n w
+pub listed_more : (n : ℕ) (v w : Waiting) → WaitingAreListed n v → WaitingGrows v w → WaitingAreListed n w
 listed_more n v w a g = record {
   long = g.long ∙ a.long;
   listed = λ row h. elim (g.listed row h) [ inl m ↦ g.kept row (a.listed row m) | inr m ↦ m ];

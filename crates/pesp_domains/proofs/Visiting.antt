@@ -13,11 +13,11 @@ use Rattle.pesp_problem.specs.Families.{IsSupportedBy}
 use Rattle.pesp_domains.specs.declared.waiting.Waiting.{Waiting}
 use Rattle.pesp_domains.specs.Sets.{set_of, Changes}
 use Rattle.pesp_domains.specs.Domains.{width_of}
-use Rattle.pesp_domains.specs.Waiting.{waits_at, Grows, Leaves, AreListed}
+use Rattle.pesp_domains.specs.Waiting.{waits_at, WaitingGrows, Leaves, WaitingAreListed}
 use Rattle.pesp_domains.specs.declared.outcome.Outcome.{Outcome}
 use Rattle.pesp_domains.specs.declared.outcome.Outcome.TheVariants.{Stable, Empty}
 use Rattle.pesp_domains.specs.Outcomes.{Shrinks, LeavesSupported}
-use Rattle.pesp_domains.specs.Visits.{net_at, sets_at, RestIsSupported, HasSameEnds, TakesRow, Visited, IsEmptyAt, IsVisit, Passed, IsPass}
+use Rattle.pesp_domains.specs.Visits.{net_at, sets_at, RestIsSupported, HasSameEnds, VisitsRow, Visited, IsEmptyAt, IsRowVisit, Passed, IsPass}
 use Rattle.pesp_domains.proofs.Places.{tail_more, head_more}
 use Rattle.pesp_domains.proofs.Revising.{is_one, one_is, in_other}
 
@@ -35,18 +35,18 @@ none_of (Some e) h = cc
 pub visit_result : (t events : ℕ) (arcs : List Arc) (row : ℕ) (xs ys : List ℕ) (before after : Waiting) (result : Result (Option ℕ) Memory)
     → IfOk result (λ o. IfSome o (λ e. IsEmptyAt t events ys e))
     → (result ≡ Ok None → Visited t arcs row xs ys before after)
-    → IfOk result (IsVisit t events arcs row xs ys before after)
+    → IfOk result (IsRowVisit t events arcs row xs ys before after)
 visit_result t events arcs row xs ys before after (Err e) a b = tt
 visit_result t events arcs row xs ys before after (Ok None) a b = b refl
 visit_result t events arcs row xs ys before after (Ok (Some e)) a b = a
 
 pub some_visit : (t events : ℕ) (arcs : List Arc) (row : ℕ) (xs ys : List ℕ) (before after : Waiting) (o : Option ℕ)
-    → is_some o ≡ true → IfSome o (λ e. IsEmptyAt t events ys e) → IsVisit t events arcs row xs ys before after o
+    → is_some o ≡ true → IfSome o (λ e. IsEmptyAt t events ys e) → IsRowVisit t events arcs row xs ys before after o
 some_visit t events arcs row xs ys before after None h a = cc
 some_visit t events arcs row xs ys before after (Some e) h a = a
 
 pub visited : (t : ℕ) (arcs : List Arc) (row : ℕ) (xs ys : List ℕ) (w0 w1 w2 w3 : Waiting) (tail head : Bool)
-    → Leaves row w0 w1 → Changes (width_of t) (arc_at arcs row) xs ys tail head → Grows w1 w2 → Grows w2 w3
+    → Leaves row w0 w1 → Changes (width_of t) (arc_at arcs row) xs ys tail head → WaitingGrows w1 w2 → WaitingGrows w2 w3
     → (tail ≡ true → (k : ℕ) → 0 < k → k ≤ length arcs
     → (tail_of arcs k ≡ (arc_at arcs row).tail) ⊎ (head_of arcs k ≡ (arc_at arcs row).tail) → k ≢ row + 1
     → waits_at w2 (k - 1) ≡ true)
@@ -147,7 +147,7 @@ passed_none t arcs ranges line xs w h e = record {
 
 pub passed_more : (t : ℕ) (arcs : List Arc) (ranges : List (ℕ × ℕ)) (line : List ℕ) (i row : ℕ) (xs ys zs : List ℕ) (u v w : Waiting)
     → row < length arcs → row ≡ get_or line i 0 → Passed t arcs ranges line i xs ys u v
-    → TakesRow t arcs ranges row ys zs → Visited t arcs row ys zs v w
+    → VisitsRow t arcs ranges row ys zs → Visited t arcs row ys zs v w
     → Passed t arcs ranges line (i + 1) xs zs u w
 passed_more t arcs ranges line i row xs ys zs u v w l here p k o = record {
   shrinks = record {
@@ -188,12 +188,12 @@ passed_more t arcs ranges line i row xs ys zs u v w l here p k o = record {
         above j a q = omega arith
 
 pub takes_at : (u t : ℕ) (arcs : List Arc) (ranges : List (ℕ × ℕ)) (row : ℕ) (xs ys : List ℕ) → u ≡ t
-    → TakesRow u arcs ranges row xs ys → TakesRow t arcs ranges row xs ys
-takes_at u t arcs ranges row xs ys e k = let P : ℕ → Type 0 = λ n. TakesRow n arcs ranges row xs ys in subst P e k
+    → VisitsRow u arcs ranges row xs ys → VisitsRow t arcs ranges row xs ys
+takes_at u t arcs ranges row xs ys e k = let P : ℕ → Type 0 = λ n. VisitsRow n arcs ranges row xs ys in subst P e k
 
 pub shrinks_more : (t : ℕ) (arcs : List Arc) (ranges : List (ℕ × ℕ)) (row : ℕ) (xs ys zs : List ℕ)
     → row < length arcs → Shrinks (net_at t arcs) ranges (sets_at t xs) (sets_at t ys)
-    → TakesRow t arcs ranges row ys zs
+    → VisitsRow t arcs ranges row ys zs
     → Shrinks (net_at t arcs) ranges (sets_at t xs) (sets_at t zs)
 shrinks_more t arcs ranges row xs ys zs l p k =
     record {
@@ -202,13 +202,13 @@ shrinks_more t arcs ranges row xs ys zs l p k =
     }
 
 pub none_visited : (u t events : ℕ) (arcs : List Arc) (row : ℕ) (xs ys : List ℕ) (v w : Waiting) (o : Option ℕ)
-    → u ≡ t → is_some o ≡ false → IsVisit u events arcs row xs ys v w o → Visited t arcs row xs ys v w
+    → u ≡ t → is_some o ≡ false → IsRowVisit u events arcs row xs ys v w o → Visited t arcs row xs ys v w
 none_visited u t events arcs row xs ys v w (Some e) q h o = cc
 none_visited u t events arcs row xs ys v w None q h o = let P : ℕ → Type 0 = λ n. Visited n arcs row xs ys v w in subst P q o
 
 pub some_passed : (u t m events : ℕ) (arcs : List Arc) (ranges : List (ℕ × ℕ)) (line : List ℕ) (row : ℕ)
     (xs ys zs : List ℕ) (u0 v w : Waiting) (o : Option ℕ) → u ≡ t → m ≡ events → is_some o ≡ true
-    → IsVisit u m arcs row ys zs v w o → IsPass t events arcs ranges line xs zs u0 w o
+    → IsRowVisit u m arcs row ys zs v w o → IsPass t events arcs ranges line xs zs u0 w o
 some_passed u t m events arcs ranges line row xs ys zs u0 v w None q r h o = cc
 some_passed u t m events arcs ranges line row xs ys zs u0 v w (Some e) q r h o =
     let P : ℕ → Type 0 = λ n. IsEmptyAt n m zs e in
@@ -219,10 +219,10 @@ some_passed u t m events arcs ranges line row xs ys zs u0 v w (Some e) q r h o =
 pub record Settling (t : ℕ) (arcs : List Arc) (ranges : List (ℕ × ℕ)) (xs ys : List ℕ) (u v : Waiting) : Type 0 where
   pub shrinks : Shrinks (net_at t arcs) ranges (sets_at t xs) (sets_at t ys)
   pub supported : RestIsSupported t arcs ranges u xs → RestIsSupported t arcs ranges v ys
-  pub listed : AreListed (length arcs) v
+  pub listed : WaitingAreListed (length arcs) v
 
 pub settling_none : (t : ℕ) (arcs : List Arc) (ranges : List (ℕ × ℕ)) (xs : List ℕ) (u : Waiting)
-    → AreListed (length arcs) u → Settling t arcs ranges xs xs u u
+    → WaitingAreListed (length arcs) u → Settling t arcs ranges xs xs u u
 settling_none t arcs ranges xs u l = record {
   shrinks = record { within = λ x d m. m; keeps = λ s sup wi. wi };
   supported = λ s. s;

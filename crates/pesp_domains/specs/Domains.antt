@@ -33,7 +33,7 @@ pub record AreKept (sets : SetRows) : Type 0 where
   pub clear : IsClear sets.period (width_of sets.period) sets.words
 
 -- room for one set, and for a set that is laid out twice
-pub record HasRoom (t one both : ℕ) : Type 0 where
+pub record HasScratchRoom (t one both : ℕ) : Type 0 where
   pub once : one ≡ width_of t
   pub twice : 2 * t ≤ 64 * both
   pub few : both ≤ 1000

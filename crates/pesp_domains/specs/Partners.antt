@@ -6,8 +6,8 @@ use Rattle.pesp_problem.specs.Families.{ArePartners}
 use Rattle.pesp_domains.specs.Bits.{bit}
 
 -- no number from the period on
-abbrev pub AreBelow : ℕ → List ℕ → Type 0
-AreBelow period set = (d : ℕ) → period ≤ d → bit set d ≡ 0
+abbrev pub NoBitAbove : ℕ → List ℕ → Type 0
+NoBitAbove period set = (d : ℕ) → period ≤ d → bit set d ≡ 0
 
 -- kept are exactly those numbers that were there and are related to one of the others
 pub record KeepsRelated (R : ℕ → ℕ → Type 0) (old others new : List ℕ) : Type 0 where
@@ -28,8 +28,8 @@ abbrev pub greatest : ℕ → ℕ × ℕ → ℕ
 greatest period range = min range.1 (period - 1)
 
 -- how many remainders a range has
-abbrev pub count_of : ℕ → ℕ × ℕ → ℕ
-count_of period range = greatest period range + 1 - range.0
+abbrev pub count_in_range : ℕ → ℕ × ℕ → ℕ
+count_in_range period range = greatest period range + 1 - range.0
 
 -- the first shift from the tail to the head, and from the head to the tail
 abbrev pub first_ahead : ℕ → Arc → ℕ × ℕ → ℕ

@@ -10,5 +10,5 @@ pub record RowsValue : Type 0 where
   pub arcs : List Arc
 
 -- those of a network: its rows without their origins
-abbrev pub rows_of : NetworkValue → RowsValue
-rows_of n = record { period = n.period; events = n.events; arcs = arcs_of_network n.rows }
+abbrev pub network_rows : NetworkValue → RowsValue
+network_rows n = record { period = n.period; events = n.events; arcs = arcs_of_network n.rows }

@@ -29,7 +29,7 @@ pub record HasSameEnds (t : ℕ) (arc : Arc) (xs ys : List ℕ) : Type 0 where
   pub head : set_of (width_of t) ys arc.head ≡ set_of (width_of t) xs arc.head
 
 -- what a visit of a row does to the sets
-pub record TakesRow (t : ℕ) (arcs : List Arc) (ranges : List (ℕ × ℕ)) (row : ℕ) (xs ys : List ℕ) : Type 0 where
+pub record VisitsRow (t : ℕ) (arcs : List Arc) (ranges : List (ℕ × ℕ)) (row : ℕ) (xs ys : List ℕ) : Type 0 where
   pub revises : Revises t (width_of t) (arc_at arcs row) (slack_range ranges row) xs ys
   pub most : sum ys ≤ sum xs
 
@@ -50,9 +50,9 @@ abbrev pub IsEmptyAt : ℕ → ℕ → List ℕ → ℕ → Type 0
 IsEmptyAt t events xs event = (event < events) × ((difference : ℕ) → sets_at t xs event difference ≡ false)
 
 -- a visit names an event whose set is empty, or all is well
-abbrev pub IsVisit : ℕ → ℕ → List Arc → ℕ → List ℕ → List ℕ → Waiting → Waiting → Option ℕ → Type 0
-IsVisit t events arcs row xs ys before after (Some event) = IsEmptyAt t events ys event
-IsVisit t events arcs row xs ys before after None = Visited t arcs row xs ys before after
+abbrev pub IsRowVisit : ℕ → ℕ → List Arc → ℕ → List ℕ → List ℕ → Waiting → Waiting → Option ℕ → Type 0
+IsRowVisit t events arcs row xs ys before after (Some event) = IsEmptyAt t events ys event
+IsRowVisit t events arcs row xs ys before after None = Visited t arcs row xs ys before after
 
 -- the rows of a line were visited up to a place, while others began to wait
 pub record Passed (t : ℕ) (arcs : List Arc) (ranges : List (ℕ × ℕ)) (line : List ℕ) (i : ℕ) (xs ys : List ℕ)

@@ -7,7 +7,7 @@ abbrev pub waits_at : Waiting → ℕ → Bool
 waits_at waiting row = slice_index_or waiting.flags.items row false
 
 -- more rows wait; each that waits did so before or is listed, the list only grew, and it has rows alone
-pub record Grows (old new : Waiting) : Type 0 where
+pub record WaitingGrows (old new : Waiting) : Type 0 where
   pub long : vec_len new.flags ≡ vec_len old.flags
   pub still : (row : ℕ) → waits_at old row ≡ true → waits_at new row ≡ true
   pub listed : (row : ℕ) → waits_at new row ≡ true → (waits_at old row ≡ true) ⊎ Contains new.rows.items row
@@ -22,7 +22,7 @@ pub record Leaves (row : ℕ) (old new : Waiting) : Type 0 where
   pub else : (other : ℕ) → (other ≡ row → ⊥) → waits_at new other ≡ waits_at old other
 
 -- rows wait only where they are listed, each below the number of rows
-pub record AreListed (rows : ℕ) (waiting : Waiting) : Type 0 where
+pub record WaitingAreListed (rows : ℕ) (waiting : Waiting) : Type 0 where
   pub long : vec_len waiting.flags ≡ rows
   pub listed : (row : ℕ) → waits_at waiting row ≡ true → Contains waiting.rows.items row
   pub below : All (λ row. row < rows) waiting.rows.items

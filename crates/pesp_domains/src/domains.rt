@@ -29,7 +29,7 @@ pub struct Domains {
 
 impl Model for Domains {
     ghost use Rattle.std.specs.Prelude.{length};
-    ghost use Rattle.pesp_domains.specs.Domains.{SetRows, AreKept, HasRoom};
+    ghost use Rattle.pesp_domains.specs.Domains.{SetRows, AreKept, HasScratchRoom};
 
     ghost Value = { SetRows };
 
@@ -40,7 +40,7 @@ impl Model for Domains {
       events = d.events;
       words = d.words.items;
     })
-        × HasRoom d.period (length d.beside.items) (length d.twice.items) };
+        × HasScratchRoom d.period (length d.beside.items) (length d.twice.items) };
 }
 
 /// How many words a set has.

@@ -5,7 +5,7 @@ ghost use Rattle.pesp_network.specs.Networks.{KeepsNetLimits};
 ghost use Rattle.pesp_domains.specs.Domains.{HaveSizes};
 ghost use Rattle.pesp_domains.specs.Outcomes.{Shrinks, IsOutcome, LeavesSupported};
 ghost use Rattle.pesp_domains.specs.Visits.{net_at, sets_at};
-ghost use Rattle.pesp_domains.specs.Rows.{RowsValue, rows_of};
+ghost use Rattle.pesp_domains.specs.Rows.{RowsValue, network_rows};
 
 use crate::domains::Domains;
 use crate::outcome::Outcome;
@@ -43,7 +43,7 @@ impl Model for Rows {
 impl Rows {
     /// The rows of a network.
     pub fn of(alloc: Global, network: &Network) -> Result<Rows, Memory>
-        ensures rows { IfOk result (λ rows. rows ≡ rows_of network.now) }
+        ensures rows { IfOk result (λ rows. rows ≡ network_rows network.now) }
         ensures limits { OnOk result (KeepsNetLimits network.now) }
     {
         let arcs = Vec::from_slice(alloc, network.arcs())?;

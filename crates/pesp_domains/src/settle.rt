@@ -7,9 +7,9 @@ ghost use Rattle.pesp_domains.specs.Domains.{family_of, HaveSizes};
 ghost use Rattle.pesp_network.specs.Chains.{AreChains};
 ghost use Rattle.pesp_problem.specs.ArcLimits.{HaveEnds};
 ghost use Rattle.pesp_domains.specs.declared.outcome.Outcome.{Outcome};
-ghost use Rattle.pesp_domains.specs.Waiting.{waits_at, Grows, AreListed};
+ghost use Rattle.pesp_domains.specs.Waiting.{waits_at, WaitingGrows, WaitingAreListed};
 ghost use Rattle.pesp_domains.specs.Outcomes.{Shrinks, IsOutcome, LeavesSupported};
-ghost use Rattle.pesp_domains.specs.Visits.{net_at, sets_at, RestIsSupported, TakesRow, IsVisit, IsPass, IsEmptyAt};
+ghost use Rattle.pesp_domains.specs.Visits.{net_at, sets_at, RestIsSupported, VisitsRow, IsRowVisit, IsPass, IsEmptyAt};
 
 use crate::domains::Domains;
 use crate::outcome::Outcome;
@@ -36,7 +36,7 @@ fn pass_on(
     requires long { vec_len waiting.old.flags ≡ length arcs.now }
     ensures empty { IfOk result
         (λ o. IfSome o (λ e. IsEmptyAt domains.now.period domains.now.events domains.now.words e)) }
-    ensures grows { Grows waiting.old waiting.new }
+    ensures grows { WaitingGrows waiting.old waiting.new }
     ensures woken { result ≡ Ok None → changed ≡ true → (k : ℕ) → 0 < k → k ≤ length arcs.now
         → (tail_of arcs.now k ≡ event) ⊎ (head_of arcs.now k ≡ event) → k ≢ row + 1
         → waits_at waiting.new (k - 1) ≡ true }
@@ -68,9 +68,9 @@ fn visit(
     requires chains { AreChains arcs.now domains.old.events chains.now }
     requires long { vec_len waiting.old.flags ≡ length arcs.now }
     ensures sizes { HaveSizes domains.old.period domains.old.events domains.new }
-    ensures takes { TakesRow domains.old.period arcs.now ranges.now row domains.old.words
+    ensures takes { VisitsRow domains.old.period arcs.now ranges.now row domains.old.words
         domains.new.words }
-    ensures visit { IfOk result (IsVisit domains.old.period domains.old.events arcs.now row
+    ensures visit { IfOk result (IsRowVisit domains.old.period domains.old.events arcs.now row
         domains.old.words domains.new.words waiting.old waiting.new) }
 {
     waiting.leave(row);
@@ -143,7 +143,7 @@ pub fn visit_waiting(
     requires ends { HaveEnds domains.old.events arcs.now }
     requires ranges { length ranges.now ≡ length arcs.now }
     requires chains { AreChains arcs.now domains.old.events chains.now }
-    requires listed { AreListed (length arcs.now) waiting }
+    requires listed { WaitingAreListed (length arcs.now) waiting }
     ensures sizes { HaveSizes domains.old.period domains.old.events domains.new }
     ensures shrinks { Shrinks (net_at domains.old.period arcs.now) ranges.now
         (sets_at domains.old.period domains.old.words)
@@ -177,7 +177,7 @@ pub fn settle(
     requires ends { HaveEnds domains.old.events arcs.now }
     requires ranges { length ranges.now ≡ length arcs.now }
     requires chains { AreChains arcs.now domains.old.events chains.now }
-    requires listed { AreListed (length arcs.now) waiting }
+    requires listed { WaitingAreListed (length arcs.now) waiting }
     ensures sizes { HaveSizes domains.old.period domains.old.events domains.new }
     ensures shrinks { Shrinks (net_at domains.old.period arcs.now) ranges.now
         (sets_at domains.old.period domains.old.words)

@@ -4,7 +4,7 @@ ghost use Rattle.std.specs.Prelude.{◌≡◌, ℕ, ◌+◌, ◌-◌, ◌<◌, �
 ghost use Rattle.pesp_problem.specs.declared.limits.TheConstants.{MOST_ROWS};
 ghost use Rattle.pesp_network.specs.Chains.{AreChains};
 ghost use Rattle.pesp_problem.specs.Arcs.{tail_of, head_of};
-ghost use Rattle.pesp_domains.specs.Waiting.{waits_at, Grows, Leaves, AreListed};
+ghost use Rattle.pesp_domains.specs.Waiting.{waits_at, WaitingGrows, Leaves, WaitingAreListed};
 
 use pesp_network::Chains;
 use pesp_problem::{Arc, Memory};
@@ -34,7 +34,7 @@ impl Waiting {
     /// All of so many rows wait.
     pub fn all(alloc: Global, count: usize) -> Result<Waiting, Memory>
         requires { count ≤ MOST_ROWS }
-        ensures listed { IfOk result (AreListed count) }
+        ensures listed { IfOk result (WaitingAreListed count) }
         ensures all { IfOk result (λ w. (row : ℕ) → row < count → waits_at w row ≡ true) }
     {
         let mut waiting = Waiting::none(alloc, count)?;
@@ -47,7 +47,7 @@ impl Waiting {
     /// One row waits.
     pub fn add(&mut self, row: u32) -> Result<(), Memory>
         requires { row < vec_len self.old.flags }
-        ensures grows { Grows self.old self.new }
+        ensures grows { WaitingGrows self.old self.new }
         ensures waits { OnOk result (waits_at self.new row ≡ true) }
     {
         let place = row as usize;
@@ -77,7 +77,7 @@ impl Waiting {
     ) -> Result<(), Memory>
         requires chains { ((events : ℕ) × AreChains arcs.now events chains.now × (event < events)) }
         requires long { vec_len self.old.flags ≡ length arcs.now }
-        ensures grows { Grows self.old self.new }
+        ensures grows { WaitingGrows self.old self.new }
         ensures woken { OnOk result ((row : ℕ) → 0 < row → row ≤ length arcs.now
             → (tail_of arcs.now row ≡ event) ⊎ (head_of arcs.now row ≡ event) → row ≢ but
             → waits_at self.new (row - 1) ≡ true) }

@@ -12,28 +12,28 @@ use std::alloc::AllocError;
 /// An activity as it is drawn: its line of the report, its greatest duration, whether every slack is allowed to it, and the
 /// time of its tail.
 #[derive(Clone, Copy)]
-pub struct Activity<'a> {
+pub struct DrawnActivity<'a> {
     line: &'a Line,
     greatest: i64,
     free: bool,
     tail_time: u32,
 }
 
-impl<'a> Activity<'a> {
+impl<'a> DrawnActivity<'a> {
     /// The activity of a line.
-    pub fn of(instance: &Instance, times: &[u32], line: &'a Line) -> Activity<'a> {
+    pub fn of(instance: &Instance, times: &[u32], line: &'a Line) -> DrawnActivity<'a> {
         let place = (line.row as usize).saturating_sub(1);
         match instance.rows().get(place) {
             Some(row) => {
                 let allowed = row.upper.saturating_sub(row.lower);
-                Activity {
+                DrawnActivity {
                     line,
                     greatest: row.upper,
                     free: allowed.saturating_add(1) >= i64::from(instance.period()),
                     tail_time: times.get(row.tail as usize).copied().unwrap_or(0),
                 }
             }
-            None => Activity {
+            None => DrawnActivity {
                 line,
                 greatest: line.duration,
                 free: true,
@@ -133,7 +133,7 @@ fn write_bars(
     text: &mut String,
     columns: &Columns,
     period: u32,
-    activity: &Activity<'_>,
+    activity: &DrawnActivity<'_>,
 ) -> Result<(), AllocError>
     requires { 1 ≤ period }
 {
@@ -158,7 +158,7 @@ fn write_marks(
     text: &mut String,
     columns: &Columns,
     period: u32,
-    activity: &Activity<'_>,
+    activity: &DrawnActivity<'_>,
 ) -> Result<(), AllocError>
     requires { 1 ≤ period }
 {
@@ -181,7 +181,7 @@ pub fn write_activity(
     columns: &Columns,
     labels: Labels<'_>,
     period: u32,
-    activity: &Activity<'_>,
+    activity: &DrawnActivity<'_>,
     y: u32,
 ) -> Result<(), AllocError>
     requires { 1 ≤ period }
@@ -198,7 +198,7 @@ pub fn write_activity(
     } = *activity.line;
     let (tail, head) = (labels.whole(tail), labels.whole(head));
     let least = activity.least();
-    let Activity {
+    let DrawnActivity {
         greatest,
         tail_time,
         ..

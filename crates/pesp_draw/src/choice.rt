@@ -4,12 +4,12 @@ use pesp_report::Line;
 
 /// Which activities are drawn: at most `most`, the dearest first, and those that cost nothing only where `costless` says so.
 #[derive(Clone, Copy)]
-pub struct Choice {
+pub struct ActivityFilter {
     pub most: u32,
     pub costless: bool,
 }
 
-impl Choice {
+impl ActivityFilter {
     /// Those of these lines, the dearest first, that are drawn.
     pub fn of_lines(self, lines: &[Line]) -> &[Line] {
         let kept = if self.costless {

@@ -32,14 +32,14 @@ pub fn events_by_label(
 
 /// How a table of events is laid out: how many stand below each other, and the pixels from one column of them to the next.
 #[derive(Clone, Copy)]
-pub struct Table {
+pub struct EventTable {
     pub rows: u32,
     width: u32,
 }
 
-impl Table {
+impl EventTable {
     /// The table of so many events, as wide as the picture.
-    pub fn of(columns: &Columns, events: usize) -> Table {
+    pub fn of(columns: &Columns, events: usize) -> EventTable {
         let width = columns.event.saturating_add(TIME);
         let across = columns.edge.checked_div(width).unwrap_or(1).max(1);
         let events = u32::try_from(events).unwrap_or(u32::MAX);
@@ -47,7 +47,7 @@ impl Table {
             .saturating_add(across.saturating_sub(1))
             .checked_div(across)
             .unwrap_or(events);
-        Table { rows, width }
+        EventTable { rows, width }
     }
 }
 
@@ -75,7 +75,7 @@ pub fn write_events(
     text: &mut String,
     columns: &Columns,
     labels: Labels<'_>,
-    table: &Table,
+    table: &EventTable,
     events: &[EventTime],
     from: u32,
 ) -> Result<(), AllocError> {

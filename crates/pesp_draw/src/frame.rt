@@ -79,15 +79,15 @@ pub fn write_event_heading(text: &mut String, y: u32) -> Result<(), AllocError> 
 
 /// How many activities aren't drawn: those that cost something with what they cost together, and those that cost nothing.
 #[derive(Clone, Copy)]
-struct Left {
+struct LeftOut {
     costly: u32,
     cost: u64,
     costless: u32,
 }
 
 /// Counts the activities behind the first ones.
-fn count_behind(lines: &[Line], first: usize) -> Left {
-    let mut left = Left {
+fn count_behind(lines: &[Line], first: usize) -> LeftOut {
+    let mut left = LeftOut {
         costly: 0,
         cost: 0,
         costless: 0,
@@ -110,7 +110,7 @@ pub fn write_activities_left(
     drawn: usize,
     end: u32,
 ) -> Result<(), AllocError> {
-    let Left {
+    let LeftOut {
         costly,
         cost,
         costless,

@@ -13,14 +13,14 @@ pub struct Labels<'a> {
 
 /// What an event is called in a column.
 #[derive(Clone, Copy, Drop)]
-pub struct Called<'a> {
+pub struct ColumnLabel<'a> {
     label: i64,
     name: &'a str,
 }
 
 /// An event's label, with its name behind it where that is known.
 #[derive(Clone, Copy, Drop)]
-pub struct Whole<'a> {
+pub struct WholeLabel<'a> {
     label: i64,
     name: &'a str,
 }
@@ -43,19 +43,19 @@ impl<'a> Labels<'a> {
     }
 
     /// What an event is called in a column.
-    pub fn called(&self, label: i64) -> Called<'a> {
+    pub fn called(&self, label: i64) -> ColumnLabel<'a> {
         let name = self.name(label);
-        Called { label, name }
+        ColumnLabel { label, name }
     }
 
     /// An event's label, with its name.
-    pub fn whole(&self, label: i64) -> Whole<'a> {
+    pub fn whole(&self, label: i64) -> WholeLabel<'a> {
         let name = self.name(label);
-        Whole { label, name }
+        WholeLabel { label, name }
     }
 }
 
-impl Called<'_> {
+impl ColumnLabel<'_> {
     /// How many characters it takes, where the label takes so many.
     pub fn characters(&self, label: u32) -> u32 {
         if self.name.is_empty() {
@@ -65,9 +65,9 @@ impl Called<'_> {
     }
 }
 
-impl fmt::Display for Called<'_> {
+impl fmt::Display for ColumnLabel<'_> {
     fn fmt<W: fmt::Write>(&self, f: &mut fmt::Formatter<W>) -> fmt::Result {
-        let Called { label, name } = *self;
+        let ColumnLabel { label, name } = *self;
         if name.is_empty() {
             return write!(f, "{label}");
         }
@@ -76,9 +76,9 @@ impl fmt::Display for Called<'_> {
     }
 }
 
-impl fmt::Display for Whole<'_> {
+impl fmt::Display for WholeLabel<'_> {
     fn fmt<W: fmt::Write>(&self, f: &mut fmt::Formatter<W>) -> fmt::Result {
-        let Whole { label, name } = *self;
+        let WholeLabel { label, name } = *self;
         if name.is_empty() {
             return write!(f, "{label}");
         }

@@ -16,7 +16,7 @@ mod scale;
 mod shortened;
 mod stretch;
 
-pub use choice::Choice;
+pub use choice::ActivityFilter;
 pub use escaped::Escaped;
 pub use picture::draw;
 pub use scale::step_for;

@@ -7,12 +7,12 @@ ghost use Rattle.pesp_stream.specs.Writing.{AppendsFront};
 ghost use Rattle.pesp_problem.specs.Timetables.{IsTimetable, AreTimes};
 ghost use Rattle.pesp_report.specs.Reporting.{IfBlamed, Refuses, UnlessBlamed};
 
-use crate::choice::Choice;
+use crate::choice::ActivityFilter;
 use crate::columns::Columns;
-use crate::events::{Table, events_by_label, write_events};
+use crate::events::{EventTable, events_by_label, write_events};
 use crate::frame::{write_activities_left, write_event_heading, write_front, write_headings};
 use crate::labels::Labels;
-use crate::rows::{Heights, write_activities};
+use crate::rows::{RowHeights, write_activities};
 use crate::scale::write_scale;
 use pesp_problem::Instance;
 use pesp_report::{Line, Names, ReportRefusal, cost_of, lines_by_cost};
@@ -32,7 +32,7 @@ pub fn draw<W: Sink>(
     alloc: Global,
     instance: &Instance,
     times: &[u32],
-    choice: Choice,
+    choice: ActivityFilter,
     names: Option<&Names>,
     sink: &mut W,
 ) -> Result<(), ReportRefusal>
@@ -65,7 +65,7 @@ fn picture_of(
     alloc: Global,
     instance: &Instance,
     times: &[u32],
-    choice: Choice,
+    choice: ActivityFilter,
     labels: Labels<'_>,
     cost: u64,
 ) -> Result<String, AllocError>
@@ -75,8 +75,8 @@ fn picture_of(
     let drawn = choice.of_lines(&lines);
     let events = events_by_label(alloc, instance, times)?;
     let columns = Columns::of(drawn, instance.events(), labels);
-    let table = Table::of(&columns, events.len());
-    let heights = Heights::of(drawn.len(), table.rows);
+    let table = EventTable::of(&columns, events.len());
+    let heights = RowHeights::of(drawn.len(), table.rows);
     let mut text = String::new(alloc);
     write_front(
         &mut text,
@@ -100,12 +100,12 @@ fn write_drawn(
     text: &mut String,
     columns: &Columns,
     labels: Labels<'_>,
-    heights: &Heights,
+    heights: &RowHeights,
     instance: &Instance,
     times: &[u32],
     drawn: &[Line],
 ) -> Result<(), AllocError> {
-    let Heights {
+    let RowHeights {
         activities,
         activities_end,
         ..

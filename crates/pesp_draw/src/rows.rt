@@ -1,6 +1,6 @@
 //! The rows of a picture, and where they stand.
 
-use crate::activities::{Activity, write_activity};
+use crate::activities::{DrawnActivity, write_activity};
 use crate::columns::Columns;
 use crate::labels::Labels;
 use pesp_problem::Instance;
@@ -12,7 +12,7 @@ pub const ROW: u32 = 18;
 
 /// Where the rows stand, in pixels from the top: the beginnings and ends of those of the activities and of the table of events.
 #[derive(Clone, Copy)]
-pub struct Heights {
+pub struct RowHeights {
     pub activities: u32,
     pub activities_end: u32,
     pub events: u32,
@@ -20,14 +20,14 @@ pub struct Heights {
     pub bottom: u32,
 }
 
-impl Heights {
+impl RowHeights {
     /// The heights of so many rows.
-    pub fn of(activities: usize, events: u32) -> Heights {
+    pub fn of(activities: usize, events: u32) -> RowHeights {
         let first = 84;
         let first_end = below(first, u32::try_from(activities).unwrap_or(u32::MAX));
         let second = first_end.saturating_add(84);
         let second_end = below(second, events);
-        Heights {
+        RowHeights {
             activities: first,
             activities_end: first_end,
             events: second,
@@ -55,7 +55,7 @@ pub fn write_activities(
     let period = instance.period();
     let mut y = from;
     for line in lines {
-        let activity = Activity::of(instance, times, line);
+        let activity = DrawnActivity::of(instance, times, line);
         write_activity(text, columns, labels, period, &activity, y)?;
         y = y.saturating_add(ROW);
     }

@@ -3,20 +3,20 @@
 /// The course since the last restart: how many steps were made, and the lengths of the first and of the last one that was
 /// measured.
 #[derive(Clone, Copy)]
-pub(crate) struct Course {
+pub(crate) struct StepCourse {
     pub(crate) steps: u32,
     first: u128,
     last: u128,
 }
 
 /// A course that begins.
-pub(crate) const BEGUN: Course = Course {
+pub(crate) const BEGUN: StepCourse = StepCourse {
     steps: 0,
     first: 0,
     last: 0,
 };
 
-impl Course {
+impl StepCourse {
     /// Whether the next step is measured.
     pub(crate) fn is_measured(&self) -> bool {
         self.steps < 2 || self.steps % 4 == 3

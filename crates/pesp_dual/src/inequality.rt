@@ -31,14 +31,14 @@ pub(crate) fn most_multiplier(scale: u32, greatest: u32) -> i64 {
 /// Where the terms of an inequality stand, the least that their sum may be, in whole units, and the inequality's multiplier
 /// among the best ones.
 #[derive(Clone, Copy)]
-pub(crate) struct Inequality {
+pub(crate) struct InequalityTerms {
     pub(crate) start: usize,
     pub(crate) end: usize,
     pub(crate) least: i64,
     pub(crate) best: i64,
 }
 
-impl Inequality {
+impl InequalityTerms {
     /// The terms among those of all inequalities.
     pub(crate) fn terms<'a>(&self, all: &'a [Term]) -> &'a [Term] {
         all.get(self.start..self.end).unwrap_or(&[])

@@ -1,8 +1,8 @@
 //! Passes over the terms of inequalities.
 
-use crate::inequality::{Inequality, Term};
+use crate::inequality::{InequalityTerms, Term};
 use crate::moved::Moved;
-use crate::rows::Row;
+use crate::rows::ProgramRow;
 
 /// The sum of coefficients times values.
 pub(crate) fn sum_of(terms: &[Term], values: &[i64]) -> i64 {
@@ -28,7 +28,7 @@ fn take(terms: &[Term], values: &mut [i64], multiplier: i64) {
 }
 
 /// The weights of rows, in 1/2^20.
-fn weigh(rows: &[Row], weights: &mut [i64]) {
+fn weigh(rows: &[ProgramRow], weights: &mut [i64]) {
     for (weight, row) in weights.iter_mut().zip(rows.iter()) {
         *weight = row.weight << 20;
     }
@@ -36,8 +36,8 @@ fn weigh(rows: &[Row], weights: &mut [i64]) {
 
 /// The weights of rows less multipliers times coefficients, in 1/2^20.
 pub(crate) fn reduce(
-    rows: &[Row],
-    inequalities: &[Inequality],
+    rows: &[ProgramRow],
+    inequalities: &[InequalityTerms],
     terms: &[Term],
     multipliers: &[Moved],
     weights: &mut [i64],
@@ -61,7 +61,7 @@ pub(crate) fn move_slacks(slacks: &mut [Moved], weights: &mut [i64]) {
 
 /// A step proper of all multipliers by what slacks miss.
 pub(crate) fn move_multipliers(
-    inequalities: &[Inequality],
+    inequalities: &[InequalityTerms],
     terms: &[Term],
     multipliers: &mut [Moved],
     slacks: &[i64],

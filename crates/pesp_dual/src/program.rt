@@ -1,9 +1,9 @@
 //! Linear programs over the slacks of rows.
 
-use crate::inequality::{Inequality, Multiplier, Term, most_multiplier};
+use crate::inequality::{InequalityTerms, Multiplier, Term, most_multiplier};
 use crate::moved::{Moved, stay};
 use crate::passes::sum_of;
-use crate::rows::{Row, first_balance};
+use crate::rows::{ProgramRow, first_balance};
 use crate::scales::greatest;
 use pesp_network::NetRow;
 use std::alloc::{AllocError, Global};
@@ -19,8 +19,8 @@ const MOST_BALANCE: i64 = 1 << 40;
 #[derive(Drop)]
 pub struct Program {
     pub(crate) scale: u32,
-    pub(crate) rows: Vec<Row>,
-    pub(crate) inequalities: Vec<Inequality>,
+    pub(crate) rows: Vec<ProgramRow>,
+    pub(crate) inequalities: Vec<InequalityTerms>,
     pub(crate) terms: Vec<Term>,
     pub(crate) points: Vec<Moved>,
     pub(crate) multipliers: Vec<Moved>,
@@ -41,7 +41,7 @@ impl Program {
         for row in rows {
             points.push(Moved::new(0, i64::from(row.span) << 16))?;
         }
-        let rows: Vec<Row> = rows.iter().map(Row::of).collect(alloc)?;
+        let rows: Vec<ProgramRow> = rows.iter().map(ProgramRow::of).collect(alloc)?;
         let balance = first_balance(&rows);
         Ok(Program {
             scale,
@@ -83,7 +83,7 @@ impl Program {
         let most = most_multiplier(self.scale, greatest(terms));
         self.terms.extend_from_slice(terms)?;
         self.multipliers.push(Moved::new(multiplier.current, most))?;
-        self.inequalities.push(Inequality {
+        self.inequalities.push(InequalityTerms {
             start,
             end: self.terms.len(),
             least,
@@ -116,7 +116,7 @@ impl Program {
         let length = inequality.end.checked_sub(inequality.start)?;
         let end = start.checked_add(length)?;
         self.move_terms(inequality.start, inequality.end, start)?;
-        *self.inequalities.get_mut(to)? = Inequality {
+        *self.inequalities.get_mut(to)? = InequalityTerms {
             start,
             end,
             ..inequality

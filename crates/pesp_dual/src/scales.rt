@@ -3,7 +3,7 @@
 use crate::inequality::Term;
 use crate::moved::Moved;
 use crate::program::Program;
-use crate::rows::Row;
+use crate::rows::ProgramRow;
 
 /// The most that the square of a distance counts.
 const MOST_NORM: u64 = 1 << 62;
@@ -18,7 +18,7 @@ pub(crate) fn greatest(terms: &[Term]) -> u32 {
 }
 
 /// The sum of the amounts of coefficients times the roots of spans, in 1/16.
-fn extent(terms: &[Term], rows: &[Row]) -> u64 {
+fn extent(terms: &[Term], rows: &[ProgramRow]) -> u64 {
     let mut sum = 0u64;
     for term in terms {
         let amount = u64::from(term.coefficient.unsigned_abs());
@@ -46,7 +46,7 @@ fn norm_of(extent: u64, factor: u32) -> u64 {
 }
 
 /// Sets what squares of slacks' distances count, by the sums of scaled coefficients.
-fn set_norms(points: &mut [Moved], rows: &[Row], sums: &[i64]) {
+fn set_norms(points: &mut [Moved], rows: &[ProgramRow], sums: &[i64]) {
     for ((moved, row), sum) in points.iter_mut().zip(rows.iter()).zip(sums.iter()) {
         moved.norm = (sum.unsigned_abs() << 14) / row.root.max(1);
     }

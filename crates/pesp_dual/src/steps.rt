@@ -1,6 +1,6 @@
 //! Steps towards the best multipliers.
 
-use crate::course::{BEGUN, Course};
+use crate::course::{BEGUN, StepCourse};
 use crate::moved::{length_of_step, length_of_way, reflect, restart, set_steps};
 use crate::passes::{move_multipliers, move_slacks, reduce};
 use crate::program::Program;
@@ -73,7 +73,7 @@ impl Program {
     }
 
     /// Whether the course has come to a restart.
-    fn is_over(&self, course: &mut Course) -> bool {
+    fn is_over(&self, course: &mut StepCourse) -> bool {
         if !course.is_measured() {
             return false;
         }
@@ -82,7 +82,7 @@ impl Program {
     }
 
     /// Goes on from the last step proper, drawn back to the last restart.
-    fn go_on(&mut self, course: &mut Course) {
+    fn go_on(&mut self, course: &mut StepCourse) {
         let part = (1i64 << 20) / i64::from(course.steps).wrapping_add(2).max(1);
         reflect(&mut self.points, part);
         reflect(&mut self.multipliers, part);
@@ -90,7 +90,7 @@ impl Program {
     }
 
     /// Goes on after a step proper, with a restart where the course is over.
-    fn turn(&mut self, course: &mut Course) {
+    fn turn(&mut self, course: &mut StepCourse) {
         if self.is_over(course) {
             self.rebalance();
             self.begin();

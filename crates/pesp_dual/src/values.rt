@@ -1,41 +1,41 @@
 //! What multipliers and slacks are worth.
 
-use crate::inequality::{Inequality, Term};
+use crate::inequality::{InequalityTerms, Term};
 use crate::moved::Moved;
 use crate::passes::sum_of;
 use crate::program::Program;
-use crate::rows::Row;
+use crate::rows::ProgramRow;
 
 /// Whose value is asked for: the multipliers of the last step proper, the best ones, or these in units of
 /// a scale, rounded.
 #[derive(Clone, Copy)]
-enum Asked {
+enum MultiplierChoice {
     Next,
     Best,
     Rounded(u32),
 }
 
-impl Asked {
+impl MultiplierChoice {
     /// How many units of the multipliers make up one.
     fn unit(self) -> i128 {
         match self {
-            Asked::Rounded(scale) => i128::from(scale),
+            MultiplierChoice::Rounded(scale) => i128::from(scale),
             _ => 1 << 20,
         }
     }
 
     /// An inequality's multiplier.
-    fn multiplier(self, inequality: &Inequality, moved: &Moved) -> i64 {
+    fn multiplier(self, inequality: &InequalityTerms, moved: &Moved) -> i64 {
         match self {
-            Asked::Next => moved.next,
-            Asked::Best => inequality.best,
-            Asked::Rounded(scale) => inequality.rounded(scale),
+            MultiplierChoice::Next => moved.next,
+            MultiplierChoice::Best => inequality.best,
+            MultiplierChoice::Rounded(scale) => inequality.rounded(scale),
         }
     }
 }
 
 /// The weights of rows in a unit.
-fn weigh(rows: &[Row], weights: &mut [i128], unit: i128) {
+fn weigh(rows: &[ProgramRow], weights: &mut [i128], unit: i128) {
     for (weight, row) in weights.iter_mut().zip(rows.iter()) {
         *weight = i128::from(row.weight).wrapping_mul(unit);
     }
@@ -52,7 +52,7 @@ fn take(terms: &[Term], weights: &mut [i128], multiplier: i64) {
 }
 
 /// What reduced weights below 0 take from the value: their rows' slacks may be as great as their spans.
-fn loss(rows: &[Row], weights: &[i128]) -> i128 {
+fn loss(rows: &[ProgramRow], weights: &[i128]) -> i128 {
     let mut sum = 0i128;
     for (weight, row) in weights.iter().zip(rows.iter()) {
         if *weight < 0 {
@@ -64,7 +64,7 @@ fn loss(rows: &[Row], weights: &[i128]) -> i128 {
 
 impl Program {
     /// The value of multipliers.
-    fn value(&mut self, asked: Asked) -> i128 {
+    fn value(&mut self, asked: MultiplierChoice) -> i128 {
         weigh(&self.rows, &mut self.exact, asked.unit());
         let mut value = 0i128;
         for (inequality, moved) in self.inequalities.iter().zip(self.multipliers.iter()) {
@@ -80,12 +80,12 @@ impl Program {
 
     /// The value of the best multipliers, in 1/2^20: no slacks that satisfy the inequalities cost less.
     pub fn best_value(&mut self) -> i128 {
-        self.value(Asked::Best)
+        self.value(MultiplierChoice::Best)
     }
 
     /// The value of the best multipliers as they are told, in units of the scale.
     pub fn rounded_value(&mut self) -> i128 {
-        self.value(Asked::Rounded(self.scale))
+        self.value(MultiplierChoice::Rounded(self.scale))
     }
 
     /// An inequality's multiplier among the best ones as it is told: in units of the scale, rounded.
@@ -98,7 +98,7 @@ impl Program {
 
     /// Keeps the multipliers of the last step proper where they are the best so far.
     pub(crate) fn look(&mut self) {
-        let value = self.value(Asked::Next);
+        let value = self.value(MultiplierChoice::Next);
         if value > self.best {
             self.best = value;
             for (inequality, moved) in self.inequalities.iter_mut().zip(self.multipliers.iter()) {

@@ -25,7 +25,7 @@ mod tableau;
 mod updates;
 
 pub use fixed::{MOST, ONE, parts, rounded, whole};
-pub use names::Names;
+pub use names::BasisNames;
 pub use simplex::Simplex;
-pub use solving::End;
+pub use solving::SolveStatus;
 pub use state::State;

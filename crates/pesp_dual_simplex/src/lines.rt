@@ -7,7 +7,7 @@ use std::alloc::{AllocError, Global};
 
 /// The coefficient of a slack in a line, named by its number.
 #[derive(Clone, Copy)]
-pub(crate) struct Entry {
+pub(crate) struct Coefficient {
     pub(crate) line: u32,
     pub(crate) coefficient: i32,
 }
@@ -17,12 +17,12 @@ pub(crate) struct Entry {
 pub(crate) struct Column {
     pub(crate) cost: i64,
     pub(crate) span: i64,
-    pub(crate) entries: Vec<Entry>,
+    pub(crate) entries: Vec<Coefficient>,
 }
 
 /// A line: its coefficients, what its sum is at least and at most, and one over the root of the squares of its coefficients.
 #[derive(Drop)]
-pub(crate) struct Line {
+pub(crate) struct Constraint {
     pub(crate) terms: Vec<Term>,
     pub(crate) least: i64,
     pub(crate) most: i64,
@@ -51,15 +51,15 @@ fn squares_of(terms: &[Term]) -> u64 {
     sum
 }
 
-impl Line {
+impl Constraint {
     /// The line of these coefficients, with a sum in this range.
     pub(crate) fn of(
         alloc: Global,
         terms: &[Term],
         least: i64,
         most: i64,
-    ) -> Result<Line, AllocError> {
-        Ok(Line {
+    ) -> Result<Constraint, AllocError> {
+        Ok(Constraint {
             terms: Vec::from_slice(alloc, terms)?,
             least,
             most,

@@ -18,7 +18,7 @@ pub(crate) struct Leaving {
 
 /// What may enter: its price, and the amount of its coefficient.
 #[derive(Clone, Copy)]
-pub(crate) struct Candidate {
+pub(crate) struct EnteringCandidate {
     pub(crate) member: Member,
     pub(crate) price: i64,
     pub(crate) size: i64,
@@ -27,7 +27,7 @@ pub(crate) struct Candidate {
 /// A candidate with its ratio.
 #[derive(Clone, Copy)]
 pub(crate) struct First {
-    pub(crate) candidate: Candidate,
+    pub(crate) candidate: EnteringCandidate,
     pub(crate) ratio: i64,
 }
 
@@ -51,7 +51,7 @@ impl Leaving {
     }
 }
 
-impl Candidate {
+impl EnteringCandidate {
     /// It with its ratio.
     pub(crate) fn with_ratio(&self) -> First {
         First {
@@ -63,14 +63,14 @@ impl Candidate {
 
 impl First {
     /// Whether a candidate's ratio is above this one, which needs no division.
-    fn is_below(&self, other: &Candidate) -> bool {
+    fn is_below(&self, other: &EnteringCandidate) -> bool {
         let price = i128::from(other.price) << 36;
         let ratio = i128::from(self.ratio).wrapping_add(1);
         price >= ratio.wrapping_mul(i128::from(other.size))
     }
 
     /// A candidate that comes before it: of a lesser ratio, or of the same one and a greater coefficient.
-    pub(crate) fn before(&self, other: &Candidate) -> Option<First> {
+    pub(crate) fn before(&self, other: &EnteringCandidate) -> Option<First> {
         if self.is_below(other) {
             return None;
         }

@@ -6,16 +6,16 @@ use std::alloc::{AllocError, Global};
 
 /// A basis: the basic slacks, the tight lines, each with whether it is at its greatest value, and the slacks at their span.
 #[derive(Drop)]
-pub struct Names {
+pub struct BasisNames {
     pub basic: Vec<u32>,
     pub tight: Vec<(u32, bool)>,
     pub up: Vec<u32>,
 }
 
-impl Names {
+impl BasisNames {
     /// No basis.
-    pub fn new(alloc: Global) -> Names {
-        Names {
+    pub fn new(alloc: Global) -> BasisNames {
+        BasisNames {
             basic: Vec::new(alloc),
             tight: Vec::new(alloc),
             up: Vec::new(alloc),
@@ -48,7 +48,7 @@ impl Simplex {
     }
 
     /// Writes down the basis.
-    pub fn name(&self, names: &mut Names) -> Result<(), AllocError> {
+    pub fn name(&self, names: &mut BasisNames) -> Result<(), AllocError> {
         self.list_basic(&mut names.basic)?;
         names.tight.clear();
         for number in &self.state.tight {
@@ -68,7 +68,7 @@ impl Simplex {
     }
 
     /// Sets at which ends slacks and lines stand.
-    fn set_named_ends(&mut self, names: &Names) {
+    fn set_named_ends(&mut self, names: &BasisNames) {
         for number in &names.up {
             if let Some(slack) = self.state.slacks.get_mut(*number as usize) {
                 slack.is_up = true;
@@ -82,7 +82,7 @@ impl Simplex {
     }
 
     /// Goes to a basis that is named.
-    pub fn take_names(&mut self, names: &Names) -> Result<(), AllocError> {
+    pub fn take_names(&mut self, names: &BasisNames) -> Result<(), AllocError> {
         self.state.basic.clear();
         self.state.basic.extend_from_slice(&names.basic)?;
         self.state.tight.clear();

@@ -1,6 +1,6 @@
 //! In which order lines and slacks come into a basis that is built anew.
 
-use crate::lines::{Column, Line};
+use crate::lines::{Column, Constraint};
 use crate::state::State;
 use std::alloc::{AllocError, Global};
 
@@ -96,7 +96,7 @@ impl Order {
     }
 
     /// Counts the open slacks of a line.
-    fn count_line(&mut self, number: u32, line: &Line) {
+    fn count_line(&mut self, number: u32, line: &Constraint) {
         for term in &line.terms {
             if is_marked(&self.is_open, term.row) {
                 count_up(&mut self.lines_of, term.row);
@@ -106,7 +106,7 @@ impl Order {
     }
 
     /// Counts those of all lines.
-    fn count(&mut self, lines: &[Line], state: &State) {
+    fn count(&mut self, lines: &[Constraint], state: &State) {
         for number in &state.tight {
             if let Some(line) = lines.get(*number as usize) {
                 self.count_line(*number, line);
@@ -118,7 +118,7 @@ impl Order {
     pub(crate) fn begin(
         &mut self,
         columns: &[Column],
-        lines: &[Line],
+        lines: &[Constraint],
         state: &State,
     ) -> Result<(), AllocError> {
         self.make_room(columns.len(), lines.len())?;
@@ -153,7 +153,7 @@ impl Order {
     }
 
     /// A line waits no longer: its open slacks are in one line less.
-    fn leave_line(&mut self, lines: &[Line], number: u32) -> Result<(), AllocError> {
+    fn leave_line(&mut self, lines: &[Constraint], number: u32) -> Result<(), AllocError> {
         unmark(&mut self.waits, number);
         let Some(line) = lines.get(number as usize) else {
             return Ok(());
@@ -171,7 +171,7 @@ impl Order {
     fn peel_one(
         &mut self,
         columns: &[Column],
-        lines: &[Line],
+        lines: &[Constraint],
         slack: u32,
     ) -> Result<(), AllocError> {
         if !is_marked(&self.is_open, slack) || count_at(&self.lines_of, slack) != 1 {
@@ -189,7 +189,7 @@ impl Order {
     fn peel(
         &mut self,
         columns: &[Column],
-        lines: &[Line],
+        lines: &[Constraint],
         state: &State,
     ) -> Result<(), AllocError> {
         self.last.clear();
@@ -258,7 +258,7 @@ impl Order {
     pub(crate) fn take(
         &mut self,
         columns: &[Column],
-        lines: &[Line],
+        lines: &[Constraint],
         beside: Beside,
     ) -> Result<(), AllocError> {
         unmark(&mut self.is_open, beside.slack);

@@ -12,7 +12,7 @@ const SUM_OFF: i64 = 1 << 19;
 
 /// What leaves so far, and how much that counts.
 #[derive(Clone, Copy)]
-struct Found {
+struct LeavingCandidate {
     leaving: Leaving,
     score: i64,
 }
@@ -29,10 +29,15 @@ fn missing(value: i64, least: i64, most: i64) -> i64 {
 }
 
 /// The one that counts more.
-fn better(found: Option<Found>, member: Member, missing: i64, score: i64) -> Option<Found> {
+fn better(
+    found: Option<LeavingCandidate>,
+    member: Member,
+    missing: i64,
+    score: i64,
+) -> Option<LeavingCandidate> {
     match found {
         Some(other) if other.score >= score => Some(other),
-        _ => Some(Found {
+        _ => Some(LeavingCandidate {
             leaving: Leaving { member, missing },
             score,
         }),
@@ -48,7 +53,7 @@ impl Simplex {
     }
 
     /// The basic slack that is furthest outside its range.
-    fn worst_slack(&self) -> Option<Found> {
+    fn worst_slack(&self) -> Option<LeavingCandidate> {
         let mut found = None;
         for number in &self.state.basic {
             let missing = self.slack_missing(*number).unwrap_or(0);

@@ -1,7 +1,7 @@
 //! The ratio test, in which slacks and lines may go to their other end.
 
 use crate::fixed::{MOST, amount, times};
-use crate::members::{Candidate, Entering, First, Leaving, Member};
+use crate::members::{Entering, EnteringCandidate, First, Leaving, Member};
 use crate::simplex::Simplex;
 use std::alloc::AllocError;
 
@@ -15,7 +15,7 @@ const NOTHING_LEFT: i64 = 64;
 const ENDLESS: i64 = MOST / 2;
 
 /// What may enter: with its price, and how its coefficient counts towards what is missing.
-fn candidate(member: Member, price: i64, rise: i64, is_up: bool) -> Option<Candidate> {
+fn candidate(member: Member, price: i64, rise: i64, is_up: bool) -> Option<EnteringCandidate> {
     let (size, price) = if is_up {
         (rise.wrapping_neg(), price.wrapping_neg())
     } else {
@@ -24,7 +24,7 @@ fn candidate(member: Member, price: i64, rise: i64, is_up: bool) -> Option<Candi
     if size <= LEAST_COEFFICIENT {
         return None;
     }
-    Some(Candidate {
+    Some(EnteringCandidate {
         member,
         price: price.max(0),
         size,
@@ -33,7 +33,7 @@ fn candidate(member: Member, price: i64, rise: i64, is_up: bool) -> Option<Candi
 
 impl Simplex {
     /// A slack at an end as a candidate.
-    fn slack_candidate(&self, leaving: Leaving, number: u32) -> Option<Candidate> {
+    fn slack_candidate(&self, leaving: Leaving, number: u32) -> Option<EnteringCandidate> {
         let slack = self.state.slacks.get(number as usize)?;
         let span = self.columns.get(number as usize)?.span;
         if span == 0 {
@@ -44,7 +44,12 @@ impl Simplex {
     }
 
     /// A tight line as a candidate.
-    fn line_candidate(&self, leaving: Leaving, place: u32, weight: i64) -> Option<Candidate> {
+    fn line_candidate(
+        &self,
+        leaving: Leaving,
+        place: u32,
+        weight: i64,
+    ) -> Option<EnteringCandidate> {
         let number = self.state.tight.get(place as usize).copied()?;
         let sum = self.state.sums.get(number as usize)?;
         if self.lines.get(number as usize)?.range() <= 0 {
@@ -112,7 +117,7 @@ impl Simplex {
         let mut last = 0i64;
         for flips in 0..self.candidates.len() {
             let First { candidate, ratio } = self.put_first(flips)?;
-            let Candidate { member, size, .. } = candidate;
+            let EnteringCandidate { member, size, .. } = candidate;
             gain = gain.wrapping_add(times(left, ratio.wrapping_sub(last)));
             last = ratio;
             let range = self.range_of(member);

@@ -13,7 +13,7 @@ const LEAST_PIVOT: i64 = 1 << 19;
 
 /// What comes in beside a line so far: the slack, the amount of its coefficient, and in how many lines it is.
 #[derive(Clone, Copy)]
-struct Pivot {
+struct EnteringSlack {
     slack: u32,
     size: i64,
     lines: u32,
@@ -32,12 +32,12 @@ impl Simplex {
     }
 
     /// An open slack as a pivot, where its coefficient is great enough.
-    fn pivot_of(&self, slack: u32, least: i64) -> Option<Pivot> {
+    fn pivot_of(&self, slack: u32, least: i64) -> Option<EnteringSlack> {
         let size = amount(self.alpha.get(slack));
         if !self.order.is_open(slack) || size < least {
             return None;
         }
-        Some(Pivot {
+        Some(EnteringSlack {
             slack,
             size,
             lines: self.order.lines_of(slack),
@@ -47,7 +47,7 @@ impl Simplex {
     /// The open slack that comes in beside the line that was weighed: of great coefficient, in few lines (Markowitz 1957).
     fn choose_pivot(&self) -> Option<u32> {
         let least = (self.greatest_open() >> 2).max(LEAST_PIVOT);
-        let mut best: Option<Pivot> = None;
+        let mut best: Option<EnteringSlack> = None;
         for number in self.alpha.places() {
             if let Some(pivot) = self.pivot_of(*number, least) {
                 best = match best {

@@ -1,8 +1,8 @@
 //! A program with where its simplex stands.
 
 use crate::fixed::{by_whole, is_nothing};
-use crate::lines::{Column, Entry, Line};
-use crate::members::Candidate;
+use crate::lines::{Coefficient, Column, Constraint};
+use crate::members::EnteringCandidate;
 use crate::order::Order;
 use crate::sparse::Sparse;
 use crate::state::{NO_SLACK, State, Sum};
@@ -18,7 +18,7 @@ use std::mem::swap;
 pub struct Simplex {
     pub(crate) alloc: Global,
     pub(crate) columns: Vec<Column>,
-    pub(crate) lines: Vec<Line>,
+    pub(crate) lines: Vec<Constraint>,
     pub(crate) inverse: Vec<Vec<i64>>,
     pub(crate) state: State,
     pub(crate) weights: Vec<i64>,
@@ -28,7 +28,7 @@ pub struct Simplex {
     pub(crate) numbers: Vec<i64>,
     pub(crate) factors: Vec<i64>,
     pub(crate) others: Vec<(u32, i64)>,
-    pub(crate) candidates: Vec<Candidate>,
+    pub(crate) candidates: Vec<EnteringCandidate>,
     pub(crate) ray: Vec<(u32, i64)>,
     pub(crate) order: Order,
     pub(crate) pivots: u64,
@@ -175,7 +175,7 @@ impl Simplex {
     fn enter(&mut self, number: u32, terms: &[Term]) -> Result<(), AllocError> {
         for term in terms {
             if let Some(column) = self.columns.get_mut(term.row as usize) {
-                column.entries.push(Entry {
+                column.entries.push(Coefficient {
                     line: number,
                     coefficient: term.coefficient,
                 })?;
@@ -187,7 +187,7 @@ impl Simplex {
     /// A line more, which isn't tight: its sum is from `least` to `most`, which may be `MOST`. Its number.
     pub fn add(&mut self, terms: &[Term], least: i64, most: i64) -> Result<u32, AllocError> {
         let number = u32::try_from(self.lines.len()).unwrap_or(u32::MAX);
-        let line = Line::of(self.alloc, terms, least, most)?;
+        let line = Constraint::of(self.alloc, terms, least, most)?;
         self.lines.push(line)?;
         self.enter(number, terms)?;
         let value = sum_along(terms, &self.state);

@@ -16,7 +16,7 @@ const MOST_UPDATES: usize = 64;
 /// How a call came to its end: nothing is outside its range; the value has reached what was asked for; nothing is within all
 /// lines, which `ray` shows; or all exchanges were made.
 #[derive(Clone, Copy, PartialEq, Eq)]
-pub enum End {
+pub enum SolveStatus {
     Best,
     Stopped,
     Ray,
@@ -25,7 +25,7 @@ pub enum End {
 
 /// What a turn did.
 #[derive(Clone, Copy)]
-enum Turn {
+enum SolveTurn {
     Best,
     Made,
     Stuck(Leaving),
@@ -42,9 +42,9 @@ impl Simplex {
     }
 
     /// Makes an exchange, where something is outside its range and something may enter.
-    fn turn(&mut self) -> Result<Turn, AllocError> {
+    fn turn(&mut self) -> Result<SolveTurn, AllocError> {
         let Some(leaving) = self.leaving() else {
-            return Ok(Turn::Best);
+            return Ok(SolveTurn::Best);
         };
         self.weigh(leaving.member)?;
         self.list_candidates(leaving)?;
@@ -53,9 +53,9 @@ impl Simplex {
         match self.entering(leaving) {
             Some(entering) => {
                 self.make(leaving, entering)?;
-                Ok(Turn::Made)
+                Ok(SolveTurn::Made)
             }
-            None => Ok(Turn::Stuck(leaving)),
+            None => Ok(SolveTurn::Stuck(leaving)),
         }
     }
 
@@ -84,11 +84,11 @@ impl Simplex {
     }
 
     /// Makes exchanges until nothing is outside its range, the value reaches `stop`, or so many were made.
-    pub fn solve(&mut self, stop: i64, most: u32) -> Result<End, AllocError> {
+    pub fn solve(&mut self, stop: i64, most: u32) -> Result<SolveStatus, AllocError> {
         let mut was_stuck = false;
         for _ in 0..most {
             if self.reaches(stop) {
-                return Ok(End::Stopped);
+                return Ok(SolveStatus::Stopped);
             }
             if self.state.since >= REBUILT_AFTER {
                 self.rebuild()?;
@@ -96,18 +96,18 @@ impl Simplex {
                 self.settle(MOST_UPDATES)?;
             }
             match self.turn()? {
-                Turn::Best => return Ok(End::Best),
-                Turn::Made => {}
-                Turn::Stuck(leaving) => {
+                SolveTurn::Best => return Ok(SolveStatus::Best),
+                SolveTurn::Made => {}
+                SolveTurn::Stuck(leaving) => {
                     if was_stuck || self.state.since <= TRUSTED_FOR {
                         self.keep_ray(leaving)?;
-                        return Ok(End::Ray);
+                        return Ok(SolveStatus::Ray);
                     }
                     was_stuck = true;
                     self.rebuild()?;
                 }
             }
         }
-        Ok(End::Limit)
+        Ok(SolveStatus::Limit)
     }
 }

@@ -1,13 +1,13 @@
 //! The rows outside a forest: each closes one cycle.
 
-use crate::forest::Forest;
+use crate::forest::RowForest;
 use std::alloc::{AllocError, Global};
 
 /// A spanning forest as leaves read it: the rows outside it by rising place, one for each cycle, all rows with those of the
 /// forest first, and the events, each before those below it.
 #[derive(Drop)]
 pub struct Cycles {
-    forest: Forest,
+    forest: RowForest,
     outside: Vec<u32>,
     order: Vec<u32>,
     downwards: Vec<u32>,
@@ -15,7 +15,7 @@ pub struct Cycles {
 
 impl Cycles {
     /// The cycles that a forest leaves.
-    pub fn new(alloc: Global, forest: Forest) -> Result<Cycles, AllocError> {
+    pub fn new(alloc: Global, forest: RowForest) -> Result<Cycles, AllocError> {
         let outside = forest.rows(alloc, false)?;
         let mut order = forest.rows(alloc, true)?;
         order.extend_from_slice(outside.as_slice())?;
@@ -40,7 +40,7 @@ impl Cycles {
     }
 
     /// The forest.
-    pub fn forest(&self) -> &Forest {
+    pub fn forest(&self) -> &RowForest {
         &self.forest
     }
 
@@ -60,7 +60,7 @@ impl Cycles {
     }
 
     /// The forest alone.
-    pub fn into_forest(self) -> Forest {
+    pub fn into_forest(self) -> RowForest {
         let Cycles { forest, .. } = self;
         forest
     }

@@ -6,7 +6,7 @@ use std::alloc::{AllocError, Global};
 
 /// A forest of rows with its trees.
 #[derive(Drop)]
-pub struct Forest {
+pub struct RowForest {
     is_in: Vec<bool>,
     tree: Tree,
 }
@@ -72,20 +72,20 @@ fn mark(chosen: &mut [bool], numbers: &[u32]) {
     }
 }
 
-impl Forest {
+impl RowForest {
     /// The forest of these rows, numbered from 1, which close no cycle.
     pub fn new(
         alloc: Global,
         frame: &Frame,
         numbers: &[u32],
-    ) -> Result<Option<Forest>, AllocError> {
+    ) -> Result<Option<RowForest>, AllocError> {
         let mut is_in = vec![in alloc; false; frame.rows().len()]?;
         mark(&mut is_in, numbers);
         let mut tree = Tree::apart(alloc, frame.events())?;
         if grow_all(frame, &is_in, &mut tree).is_none() {
             return Ok(None);
         }
-        Ok(Some(Forest { is_in, tree }))
+        Ok(Some(RowForest { is_in, tree }))
     }
 
     /// Whether a row is in the forest.

@@ -9,15 +9,15 @@ const MANY_EVENTS: usize = 2_500;
 
 /// The events to which rows lead from one, the nearest first, and for each the one before it on its way.
 #[derive(Drop)]
-struct Spread {
+struct BreadthFirst {
     order: Vec<u32>,
     before: Vec<u32>,
 }
 
-impl Spread {
+impl BreadthFirst {
     /// From one event.
-    fn from(alloc: Global, stars: &[Vec<Link>], first: u32) -> Result<Spread, AllocError> {
-        let mut spread = Spread {
+    fn from(alloc: Global, stars: &[Vec<Link>], first: u32) -> Result<BreadthFirst, AllocError> {
+        let mut spread = BreadthFirst {
             order: Vec::with_capacity(alloc, stars.len())?,
             before: vec![in alloc; NONE; stars.len()]?,
         };
@@ -90,8 +90,8 @@ pub(crate) fn middle_of(alloc: Global, stars: &[Vec<Link>]) -> Result<Option<u32
     if stars.len() < MANY_EVENTS {
         return Ok(None);
     }
-    let end = Spread::from(alloc, stars, 0)?.last();
-    let spread = Spread::from(alloc, stars, end)?;
+    let end = BreadthFirst::from(alloc, stars, 0)?.last();
+    let spread = BreadthFirst::from(alloc, stars, end)?;
     let other = spread.last();
     Ok(Some(spread.back(other, spread.steps(other) / 2)))
 }

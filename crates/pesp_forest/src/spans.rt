@@ -1,6 +1,6 @@
 //! The offsets that slacks leave to cycles, by sums of durations along a forest.
 
-use crate::forest::Forest;
+use crate::forest::RowForest;
 use crate::frame::Frame;
 use crate::tree::NONE;
 use pesp_network::NetRow;
@@ -79,7 +79,11 @@ impl Span {
 
 impl Spans {
     /// The sums along a forest; None where one is too great.
-    pub fn new(alloc: Global, frame: &Frame, forest: &Forest) -> Result<Option<Spans>, AllocError> {
+    pub fn new(
+        alloc: Global,
+        frame: &Frame,
+        forest: &RowForest,
+    ) -> Result<Option<Spans>, AllocError> {
         let downwards = forest.downwards(alloc)?;
         let mut spans = Spans {
             sums: vec![in alloc; NO_SPAN; frame.events()]?,
@@ -91,7 +95,7 @@ impl Spans {
     }
 
     /// Sets the sums of these events, each below those before it.
-    fn fill(&mut self, frame: &Frame, forest: &Forest, downwards: &[u32]) -> Option<()> {
+    fn fill(&mut self, frame: &Frame, forest: &RowForest, downwards: &[u32]) -> Option<()> {
         for event in downwards {
             if !forest.tree().is_root(*event) {
                 self.set(frame, forest, *event)?;
@@ -112,7 +116,7 @@ impl Spans {
     }
 
     /// The sums of an event from those of the event above it.
-    pub fn set(&mut self, frame: &Frame, forest: &Forest, event: u32) -> Option<()> {
+    pub fn set(&mut self, frame: &Frame, forest: &RowForest, event: u32) -> Option<()> {
         let place = forest.tree().place(event)?;
         let row = frame.row(place.by)?;
         let above = self.at(place.up)?;
@@ -133,7 +137,7 @@ impl Spans {
 
     /// The offsets that slacks from 0 to the span of each row leave to the cycle that a row closes (Odijk 1996). The first is
     /// above the second where there are none.
-    pub fn offsets(&self, frame: &Frame, forest: &Forest, row: u32) -> Option<(i64, i64)> {
+    pub fn offsets(&self, frame: &Frame, forest: &RowForest, row: u32) -> Option<(i64, i64)> {
         let row = frame.row(row)?;
         let top = forest.tree().meeting(row.tail, row.head)?;
         let span = self.around(row, top)?;
@@ -141,7 +145,7 @@ impl Spans {
     }
 
     /// Puts right the depths and the sums of an event that was hung anew and of what is below it.
-    pub fn settle(&mut self, frame: &Frame, forest: &mut Forest, top: u32) -> Option<()> {
+    pub fn settle(&mut self, frame: &Frame, forest: &mut RowForest, top: u32) -> Option<()> {
         let mut event = top;
         for _ in 0..frame.events() {
             forest.set_depth(event)?;

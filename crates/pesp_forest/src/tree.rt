@@ -9,7 +9,7 @@ pub const NONE: u32 = u32::MAX;
 /// first event that hangs below it, and the events before and after it among those that hang where it hangs. `NONE` where
 /// there is none.
 #[derive(Clone, Copy, PartialEq, Eq)]
-pub struct Place {
+pub struct TreeEvent {
     pub up: u32,
     pub by: u32,
     pub depth: u32,
@@ -19,7 +19,7 @@ pub struct Place {
 }
 
 /// A root below which nothing hangs.
-const ROOT: Place = Place {
+const ROOT: TreeEvent = TreeEvent {
     up: NONE,
     by: NONE,
     depth: 0,
@@ -31,7 +31,7 @@ const ROOT: Place = Place {
 /// Trees over events.
 #[derive(Drop)]
 pub struct Tree {
-    places: Vec<Place>,
+    places: Vec<TreeEvent>,
 }
 
 impl Tree {
@@ -69,7 +69,7 @@ impl Tree {
     }
 
     /// The place of an event.
-    pub fn place(&self, event: u32) -> Option<Place> {
+    pub fn place(&self, event: u32) -> Option<TreeEvent> {
         self.places.get(event as usize).copied()
     }
 
@@ -79,7 +79,7 @@ impl Tree {
     }
 
     /// The place of an event, to be changed.
-    fn place_mut(&mut self, event: u32) -> Option<&mut Place> {
+    fn place_mut(&mut self, event: u32) -> Option<&mut TreeEvent> {
         self.places.get_mut(event as usize)
     }
 
@@ -100,7 +100,7 @@ impl Tree {
     }
 
     /// Takes an event from where it hangs; its place before that.
-    fn unhang(&mut self, event: u32) -> Option<Place> {
+    fn unhang(&mut self, event: u32) -> Option<TreeEvent> {
         let place = self.place(event)?;
         if place.before == NONE {
             self.place_mut(place.up)?.below = place.after;

@@ -1,10 +1,9 @@
 //! Which rows are exchanged.
 
 use crate::settings::{BAD_TRIED, WIDE};
-use crate::table::Table;
-use pesp_forest::{Forest, Frame};
+use crate::table::ForestTable;
+use pesp_forest::{Frame, Random, RowForest};
 use pesp_network::NetRow;
-use pesp_search_tools::Random;
 
 /// A row that goes into the forest, its place among those outside, and the row that goes out.
 #[derive(Clone, Copy)]
@@ -16,7 +15,7 @@ pub(crate) struct Exchange {
 
 /// Whether a row costs what it must by the prices of the root: it has no weight, its prices rise by more or less than open
 /// offsets allow, or by as much as a slack of 0 gives.
-fn is_paid(frame: &Frame, table: &Table, place: u32) -> Option<bool> {
+fn is_paid(frame: &Frame, table: &ForestTable, place: u32) -> Option<bool> {
     let row = frame.row(place)?;
     let rise = table.basis.rise(place)?;
     let slopes = table.basis.slopes(place)?;
@@ -28,7 +27,7 @@ fn is_paid(frame: &Frame, table: &Table, place: u32) -> Option<bool> {
 }
 
 /// The row upwards from the event so many rows above another.
-fn row_above(forest: &Forest, event: u32, steps: u32) -> Option<u32> {
+fn row_above(forest: &RowForest, event: u32, steps: u32) -> Option<u32> {
     let mut current = event;
     for _ in 0..steps {
         current = forest.tree().place(current)?.up;
@@ -37,13 +36,13 @@ fn row_above(forest: &Forest, event: u32, steps: u32) -> Option<u32> {
 }
 
 /// How many rows lead from an event up to another.
-fn steps_up(forest: &Forest, event: u32, top: u32) -> Option<u32> {
+fn steps_up(forest: &RowForest, event: u32, top: u32) -> Option<u32> {
     let depth = forest.tree().place(event)?.depth;
     depth.checked_sub(forest.tree().place(top)?.depth)
 }
 
 /// A row of the way along the forest between the ends of another.
-fn draw_between(random: &mut Random, forest: &Forest, row: &NetRow) -> Option<u32> {
+fn draw_between(random: &mut Random, forest: &RowForest, row: &NetRow) -> Option<u32> {
     let top = forest.tree().meeting(row.head, row.tail)?;
     let from_head = steps_up(forest, row.head, top)?;
     let both = from_head.checked_add(steps_up(forest, row.tail, top)?)?;
@@ -65,7 +64,7 @@ fn looks_bad(enters: &NetRow, leaves: &NetRow) -> bool {
 pub(crate) fn draw(
     random: &mut Random,
     frame: &Frame,
-    table: &Table,
+    table: &ForestTable,
     outside: &[u32],
 ) -> Option<Exchange> {
     let place = u32::try_from(random.below(outside.len() as u64)).ok()?;

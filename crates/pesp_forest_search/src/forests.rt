@@ -2,23 +2,22 @@
 
 use crate::exchange::{Exchange, draw};
 use crate::goal::{Goal, open_in_all};
-use crate::heat::Heat;
+use crate::heat::HeatSchedule;
 use crate::settings::DRAWN_EACH;
-use crate::table::Table;
-use pesp_forest::Frame;
+use crate::table::ForestTable;
+use pesp_forest::{Frame, Random};
 use pesp_network::Network;
 use pesp_problem::Memory;
-use pesp_search_tools::Random;
 use std::alloc::{AllocError, Global};
 
 /// A search: where it stands, the rows outside its forest, how open its cycles are, what the forest is worth, and the best rows
 /// so far.
 #[derive(Drop)]
-struct Search {
-    table: Table,
+struct ForestSearch {
+    table: ForestTable,
     outside: Vec<u32>,
     goal: Goal,
-    heat: Heat,
+    heat: HeatSchedule,
     random: Random,
     open: i64,
     worth: i128,
@@ -36,15 +35,15 @@ fn numbered(alloc: Global, places: &[u32]) -> Result<Vec<u32>, AllocError> {
     Ok(numbers)
 }
 
-impl Search {
+impl ForestSearch {
     /// A search of so many exchanges from a table; no rows are kept yet.
     fn new(
         alloc: Global,
         frame: &Frame,
-        table: Table,
+        table: ForestTable,
         seed: u32,
         most: u32,
-    ) -> Result<Search, AllocError> {
+    ) -> Result<ForestSearch, AllocError> {
         let outside = match table.forest.rows(alloc, false) {
             Ok(outside) => outside,
             Err(refused) => {
@@ -55,8 +54,8 @@ impl Search {
         let goal = Goal::new(outside.len());
         let open = open_in_all(frame, &table.basis);
         let worth = goal.worth(frame, table.cost(), open);
-        Ok(Search {
-            heat: Heat::new(frame, goal, outside.len(), most),
+        Ok(ForestSearch {
+            heat: HeatSchedule::new(frame, goal, outside.len(), most),
             rows: Vec::new(alloc),
             table,
             outside,
@@ -174,10 +173,10 @@ fn found_from(
     seed: u32,
     exchanges: u32,
 ) -> Result<Option<Vec<u32>>, AllocError> {
-    let Some(table) = Table::new(alloc, frame, numbers)? else {
+    let Some(table) = ForestTable::new(alloc, frame, numbers)? else {
         return Ok(None);
     };
-    let mut search = Search::new(alloc, frame, table, seed, exchanges)?;
+    let mut search = ForestSearch::new(alloc, frame, table, seed, exchanges)?;
     let found = search.found(alloc, frame, exchanges);
     drop(search);
     Ok(Some(found?))

@@ -2,8 +2,7 @@
 
 use crate::goal::Goal;
 use crate::settings::{COOLINGS, FEWEST_CHOSEN, FEWEST_HEATED};
-use pesp_forest::Frame;
-use pesp_search_tools::Random;
+use pesp_forest::{Frame, Random};
 
 /// 1024 divided by the natural logarithm of 2: a loss as great as the heat is taken once in e times.
 const HALVINGS: u128 = 1477;
@@ -11,7 +10,7 @@ const HALVINGS: u128 = 1477;
 /// The greatest loss at the start, which falls by some halvings until the last exchange; and by how much more offsets may be
 /// open where an exchange is looked at.
 #[derive(Clone, Copy)]
-pub(crate) struct Heat {
+pub(crate) struct HeatSchedule {
     top: u64,
     most: u32,
     room: u64,
@@ -27,16 +26,16 @@ fn mean_weight(frame: &Frame) -> u64 {
     sum.checked_div(rows).unwrap_or(0).saturating_add(1)
 }
 
-impl Heat {
+impl HeatSchedule {
     /// The heat of so many exchanges; none where they are too few for each cycle.
-    pub(crate) fn new(frame: &Frame, goal: Goal, cycles: usize, most: u32) -> Heat {
+    pub(crate) fn new(frame: &Frame, goal: Goal, cycles: usize, most: u32) -> HeatSchedule {
         let scaled = goal
             .share
             .saturating_mul(u64::from(frame.period()))
             .saturating_mul(mean_weight(frame));
         let is_heated = most as usize >= cycles.saturating_mul(FEWEST_HEATED);
         let is_short = (most as usize) < cycles.saturating_mul(FEWEST_CHOSEN);
-        Heat {
+        HeatSchedule {
             top: if is_heated { scaled / 4096 } else { 0 },
             most,
             room: if is_short { scaled / 64 } else { scaled / 1024 },

@@ -2,8 +2,8 @@
 
 use crate::goal::openness;
 use crate::settings::FEW_ROWS;
-use pesp_forest::{Forest, Frame, NONE, Spans};
-use pesp_relaxation::{Basis, Ended, MOST_PIVOTS, Root, Slopes, slopes_of};
+use pesp_forest::{Frame, NONE, RowForest, Spans};
+use pesp_relaxation::{Basis, MOST_PIVOTS, PivotEnd, Root, Slopes, slopes_of};
 use std::alloc::{AllocError, Global};
 
 /// A row, and what flow on it costs.
@@ -26,8 +26,8 @@ struct Spare {
 
 /// A forest with sums of durations along it and the best basis of its root, and what an exchange needs.
 #[derive(Drop)]
-pub(crate) struct Table {
-    pub(crate) forest: Forest,
+pub(crate) struct ForestTable {
+    pub(crate) forest: RowForest,
     pub(crate) basis: Basis,
     spans: Spans,
     spare: Spare,
@@ -74,20 +74,20 @@ fn basis_and_spare(
     }
 }
 
-impl Table {
+impl ForestTable {
     /// The table of a forest's rows, numbered from 1; None where its root has no timetable.
     pub(crate) fn new(
         alloc: Global,
         frame: &Frame,
         numbers: &[u32],
-    ) -> Result<Option<Table>, AllocError> {
+    ) -> Result<Option<ForestTable>, AllocError> {
         let Some(root) = Root::new(alloc, frame, numbers)? else {
             return Ok(None);
         };
         match basis_and_spare(alloc, frame, &root) {
             Ok(Some((basis, spare))) => {
                 let Root { cycles, spans, .. } = root;
-                Ok(Some(Table {
+                Ok(Some(ForestTable {
                     forest: cycles.into_forest(),
                     basis,
                     spans,
@@ -251,7 +251,7 @@ impl Table {
             self.change_all()?;
         }
         match self.basis.solve(frame, MOST_PIVOTS) {
-            Ended::Best => Some(()),
+            PivotEnd::Best => Some(()),
             _ => None,
         }
     }

@@ -8,7 +8,7 @@ const LEAST_PART: i64 = 512;
 
 /// Passes of one direction: their distances added up, in 1/65536, and how many there are.
 #[derive(Clone, Copy)]
-pub(crate) struct Side {
+pub(crate) struct DirectionSums {
     pub(crate) distance: i64,
     pub(crate) count: i64,
 }
@@ -17,8 +17,8 @@ pub(crate) struct Side {
 #[derive(Clone, Copy)]
 pub(crate) struct Sums {
     pub(crate) rest: i64,
-    pub(crate) rising: Side,
-    pub(crate) falling: Side,
+    pub(crate) rising: DirectionSums,
+    pub(crate) falling: DirectionSums,
 }
 
 /// No passes.
@@ -28,30 +28,30 @@ pub(crate) const NO_SUMS: Sums = Sums {
     falling: NO_SIDE,
 };
 
-const NO_SIDE: Side = Side {
+const NO_SIDE: DirectionSums = DirectionSums {
     distance: 0,
     count: 0,
 };
 
 /// Judges violations at a period: `shift` is how many bits are cut off so that squares fit 64 bits.
 #[derive(Clone, Copy)]
-pub(crate) struct Judge {
+pub(crate) struct EfficacyMeasure {
     period: i64,
     shift: u32,
 }
 
-impl Side {
+impl DirectionSums {
     /// One pass more.
-    pub(crate) fn with(self, distance: i64) -> Side {
-        Side {
+    pub(crate) fn with(self, distance: i64) -> DirectionSums {
+        DirectionSums {
             distance: self.distance.wrapping_add(distance),
             count: self.count.wrapping_add(1),
         }
     }
 
     /// One pass less.
-    pub(crate) fn without(self, distance: i64) -> Side {
-        Side {
+    pub(crate) fn without(self, distance: i64) -> DirectionSums {
+        DirectionSums {
             distance: self.distance.wrapping_sub(distance),
             count: self.count.wrapping_sub(1),
         }
@@ -63,12 +63,12 @@ impl Side {
     }
 }
 
-impl Judge {
+impl EfficacyMeasure {
     /// The judge of a period.
-    pub(crate) fn new(period: u32) -> Judge {
+    pub(crate) fn new(period: u32) -> EfficacyMeasure {
         let most = u64::from(period).wrapping_mul(u64::from(period)) << 14;
         let bits = 64u32.saturating_sub(most.leading_zeros());
-        Judge {
+        EfficacyMeasure {
             period: i64::from(period),
             shift: bits.saturating_sub(32),
         }

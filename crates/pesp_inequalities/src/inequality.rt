@@ -17,7 +17,7 @@ pub struct Inequality {
 
 /// The rates of distances: the period less the rest where the direction is plus, the rest where it is minus.
 #[derive(Clone, Copy)]
-struct Rates {
+struct DirectionRates {
     rising: i64,
     falling: i64,
 }
@@ -33,10 +33,10 @@ fn rest_of(frame: &Frame, passes: &[Pass]) -> Option<i64> {
     lack.checked_rem_euclid(i64::from(frame.period()))
 }
 
-impl Rates {
+impl DirectionRates {
     /// The rates of a walk with this rest.
-    fn new(frame: &Frame, rest: i64) -> Rates {
-        Rates {
+    fn new(frame: &Frame, rest: i64) -> DirectionRates {
+        DirectionRates {
             rising: i64::from(frame.period()).wrapping_sub(rest),
             falling: rest,
         }
@@ -116,7 +116,7 @@ impl Inequality {
         if rest == 0 {
             return Ok(None);
         }
-        let rates = Rates::new(frame, rest);
+        let rates = DirectionRates::new(frame, rest);
         let terms = rates.terms(alloc, &passes)?;
         let least = rates.least(frame, &passes);
         Ok(Some(Inequality {

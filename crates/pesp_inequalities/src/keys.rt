@@ -1,13 +1,12 @@
 //! The keys by which forests take rows, so that walks along them are likely to be violated.
 
 use crate::efficacy::WHOLE;
-use pesp_forest::Frame;
+use pesp_forest::{Frame, Random};
 use pesp_network::NetRow;
-use pesp_search_tools::Random;
 
 /// What a key begins with: nothing, the slack, or its distance from the nearer end of its range.
 #[derive(Clone, Copy)]
-enum Start {
+enum KeyStart {
     Nothing,
     Slack,
     NearerEnd,
@@ -17,7 +16,7 @@ enum Start {
 /// that is drawn for each row, `by_span` times the span and `drawn` units.
 #[derive(Clone, Copy)]
 pub(crate) struct KeyRule {
-    start: Start,
+    start: KeyStart,
     fixed: i64,
     by_span: i64,
     drawn: i64,
@@ -26,37 +25,37 @@ pub(crate) struct KeyRule {
 /// The rules of the forests that are drawn each time.
 pub(crate) const RULES: [KeyRule; 6] = [
     KeyRule {
-        start: Start::NearerEnd,
+        start: KeyStart::NearerEnd,
         fixed: 8,
         by_span: 0,
         drawn: 0,
     },
     KeyRule {
-        start: Start::Slack,
+        start: KeyStart::Slack,
         fixed: 0,
         by_span: 64,
         drawn: 0,
     },
     KeyRule {
-        start: Start::NearerEnd,
+        start: KeyStart::NearerEnd,
         fixed: 0,
         by_span: 64,
         drawn: 0,
     },
     KeyRule {
-        start: Start::NearerEnd,
+        start: KeyStart::NearerEnd,
         fixed: 0,
         by_span: 0,
         drawn: 3 * WHOLE,
     },
     KeyRule {
-        start: Start::NearerEnd,
+        start: KeyStart::NearerEnd,
         fixed: 0,
         by_span: 0,
         drawn: 15 * WHOLE,
     },
     KeyRule {
-        start: Start::Nothing,
+        start: KeyStart::Nothing,
         fixed: WHOLE / 4,
         by_span: WHOLE,
         drawn: 0,
@@ -65,7 +64,7 @@ pub(crate) const RULES: [KeyRule; 6] = [
 
 /// The rule of the forest of small spans.
 pub(crate) const BY_SPAN: KeyRule = KeyRule {
-    start: Start::Nothing,
+    start: KeyStart::Nothing,
     fixed: WHOLE,
     by_span: 0,
     drawn: 0,
@@ -80,9 +79,9 @@ impl KeyRule {
     /// What the key of a row begins with.
     fn start(&self, span: i64, slack: i64) -> i64 {
         match self.start {
-            Start::Nothing => 0,
-            Start::Slack => slack,
-            Start::NearerEnd => slack.min(span.wrapping_mul(WHOLE).wrapping_sub(slack)),
+            KeyStart::Nothing => 0,
+            KeyStart::Slack => slack,
+            KeyStart::NearerEnd => slack.min(span.wrapping_mul(WHOLE).wrapping_sub(slack)),
         }
     }
 

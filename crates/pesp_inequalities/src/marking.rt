@@ -1,6 +1,6 @@
 //! A walk whose passes are flipped one by one, with what its inequality is judged by.
 
-use crate::efficacy::{Judge, NO_SUMS, Sums, WHOLE};
+use crate::efficacy::{EfficacyMeasure, NO_SUMS, Sums, WHOLE};
 use crate::pass::Pass;
 use pesp_forest::Frame;
 use pesp_network::NetRow;
@@ -9,7 +9,7 @@ use std::alloc::{AllocError, Global};
 /// What a pass adds to a walk's sums: whether its direction is plus, how far its slack is from the end from which it is measured
 /// and from the other one, in 1/65536, and what flipping it adds to the rest.
 #[derive(Clone, Copy)]
-struct Step {
+struct PassTerms {
     rises: bool,
     distance: i64,
     opposite: i64,
@@ -18,7 +18,7 @@ struct Step {
 
 /// Which ends slacks are measured from: the nearer ones, or such that all directions are plus, or minus (Odijk 1996).
 #[derive(Clone, Copy)]
-pub(crate) enum Ends {
+pub(crate) enum DistanceOrigin {
     Nearer,
     Rising,
     Falling,
@@ -28,7 +28,7 @@ pub(crate) enum Ends {
 #[derive(Drop)]
 pub(crate) struct Marking {
     passes: Vec<Pass>,
-    steps: Vec<Step>,
+    steps: Vec<PassTerms>,
     sums: Sums,
 }
 
@@ -43,11 +43,11 @@ fn within(rest: i64, period: i64) -> i64 {
     }
 }
 
-impl Step {
+impl PassTerms {
     /// The step of a plain pass of a row at a slack.
-    fn new(row: &NetRow, pass: Pass, slack: i64) -> Step {
+    fn new(row: &NetRow, pass: Pass, slack: i64) -> PassTerms {
         let span = i64::from(row.span);
-        Step {
+        PassTerms {
             rises: pass.rises(),
             distance: slack,
             opposite: span.wrapping_mul(WHOLE).wrapping_sub(slack),
@@ -109,18 +109,18 @@ impl Step {
     }
 }
 
-impl Ends {
+impl DistanceOrigin {
     /// Whether a step has to be flipped.
-    fn turns(self, step: &Step) -> bool {
+    fn turns(self, step: &PassTerms) -> bool {
         match self {
-            Ends::Nearer => step.distance > step.opposite,
-            Ends::Rising => !step.rises,
-            Ends::Falling => step.rises,
+            DistanceOrigin::Nearer => step.distance > step.opposite,
+            DistanceOrigin::Rising => !step.rises,
+            DistanceOrigin::Falling => step.rises,
         }
     }
 
     /// How far the slack of a step is from its end.
-    fn distance(self, step: &Step) -> i64 {
+    fn distance(self, step: &PassTerms) -> i64 {
         if self.turns(step) {
             step.opposite
         } else {
@@ -145,7 +145,7 @@ impl Marking {
     }
 
     /// How much the inequality is violated as passes are flipped now.
-    pub(crate) fn efficacy(&self, judge: Judge) -> u64 {
+    pub(crate) fn efficacy(&self, judge: EfficacyMeasure) -> u64 {
         judge.efficacy(&self.sums)
     }
 
@@ -153,7 +153,7 @@ impl Marking {
     pub(crate) fn load(
         &mut self,
         frame: &Frame,
-        judge: Judge,
+        judge: EfficacyMeasure,
         slacks: &[i64],
         walk: &[Pass],
     ) -> Result<bool, AllocError> {
@@ -166,7 +166,7 @@ impl Marking {
                 return Ok(false);
             };
             let slack = slacks.get(pass.row as usize).copied().unwrap_or(0);
-            let step = Step::new(row, *pass, slack);
+            let step = PassTerms::new(row, *pass, slack);
             nearest = nearest.wrapping_add(step.distance.min(step.opposite));
             if nearest >= judge.bound() {
                 return Ok(false);
@@ -182,7 +182,7 @@ impl Marking {
     }
 
     /// Whether the inequality with all slacks measured from these ends may be violated.
-    pub(crate) fn is_near(&self, judge: Judge, ends: Ends) -> bool {
+    pub(crate) fn is_near(&self, judge: EfficacyMeasure, ends: DistanceOrigin) -> bool {
         let mut distance = 0i64;
         for step in &self.steps {
             distance = distance.wrapping_add(ends.distance(step));
@@ -194,7 +194,7 @@ impl Marking {
     }
 
     /// Measures all slacks from these ends.
-    pub(crate) fn turn_to(&mut self, judge: Judge, ends: Ends) {
+    pub(crate) fn turn_to(&mut self, judge: EfficacyMeasure, ends: DistanceOrigin) {
         let mut sums = self.sums;
         for (step, pass) in self.steps.iter_mut().zip(self.passes.iter_mut()) {
             if ends.turns(step) {
@@ -207,7 +207,7 @@ impl Marking {
     }
 
     /// The place of the pass whose flip makes the inequality the most violated; None where no flip makes it more so.
-    fn best_flip(&self, judge: Judge) -> Option<usize> {
+    fn best_flip(&self, judge: EfficacyMeasure) -> Option<usize> {
         let mut best = self.efficacy(judge);
         let mut found = None;
         for (place, step) in self.steps.iter().enumerate() {
@@ -221,7 +221,7 @@ impl Marking {
     }
 
     /// Flips the pass that makes the inequality the most violated; None where no flip makes it more so.
-    pub(crate) fn improve(&mut self, judge: Judge) -> Option<()> {
+    pub(crate) fn improve(&mut self, judge: EfficacyMeasure) -> Option<()> {
         let place = self.best_flip(judge)?;
         let step = self.steps.get_mut(place)?;
         let pass = self.passes.get_mut(place)?;

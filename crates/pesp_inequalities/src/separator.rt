@@ -1,15 +1,14 @@
 //! The search for violated inequalities.
 
-use crate::efficacy::Judge;
+use crate::efficacy::EfficacyMeasure;
 use crate::finds::Finds;
 use crate::inequality::Inequality;
 use crate::keys::{BY_SPAN, KeyRule, RULES};
-use crate::marking::{Ends, Marking};
+use crate::marking::{DistanceOrigin, Marking};
 use crate::seen::Seen;
 use crate::spanning::Spanning;
-use crate::ways::Way;
-use pesp_forest::Frame;
-use pesp_search_tools::Random;
+use crate::ways::TreeWalk;
+use pesp_forest::{Frame, Random};
 use std::alloc::{AllocError, Global};
 
 /// How many passes of a walk are flipped at most, one after another, from the nearer ends on.
@@ -23,11 +22,11 @@ const MOST_PASSES: usize = 4_000_000;
 #[derive(Drop)]
 pub struct Separator {
     alloc: Global,
-    judge: Judge,
+    judge: EfficacyMeasure,
     random: Random,
     keys: Vec<i64>,
     spanning: Spanning,
-    way: Way,
+    way: TreeWalk,
     marking: Marking,
     offers: Finds,
     finds: Finds,
@@ -38,11 +37,11 @@ impl Separator {
     pub fn new(alloc: Global, frame: &Frame, seed: u64) -> Result<Separator, AllocError> {
         Ok(Separator {
             alloc,
-            judge: Judge::new(frame.period()),
+            judge: EfficacyMeasure::new(frame.period()),
             random: Random::new(seed),
             keys: vec![in alloc; 0i64; frame.rows().len()]?,
             spanning: Spanning::new(alloc, frame)?,
-            way: Way::new(alloc),
+            way: TreeWalk::new(alloc),
             marking: Marking::new(alloc),
             offers: Finds::new(alloc),
             finds: Finds::new(alloc),
@@ -56,7 +55,7 @@ impl Separator {
     }
 
     /// Notes the inequality of the walk with its slacks measured from these ends, where it may be violated.
-    fn offer_from(&mut self, ends: Ends) -> Result<(), AllocError> {
+    fn offer_from(&mut self, ends: DistanceOrigin) -> Result<(), AllocError> {
         if !self.marking.is_near(self.judge, ends) {
             return Ok(());
         }
@@ -66,7 +65,7 @@ impl Separator {
 
     /// Notes the inequalities that come of flips, each of which makes the one before more violated.
     fn offer_flips(&mut self) -> Result<(), AllocError> {
-        self.offer_from(Ends::Nearer)?;
+        self.offer_from(DistanceOrigin::Nearer)?;
         for _ in 0..MOST_FLIPS {
             if self.marking.improve(self.judge).is_none() {
                 break;
@@ -89,8 +88,8 @@ impl Separator {
         }
         self.offers.clear();
         self.offer_flips()?;
-        self.offer_from(Ends::Rising)?;
-        self.offer_from(Ends::Falling)?;
+        self.offer_from(DistanceOrigin::Rising)?;
+        self.offer_from(DistanceOrigin::Falling)?;
         self.finds.put_best(&mut self.offers, each)
     }
 

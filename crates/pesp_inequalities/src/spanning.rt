@@ -1,7 +1,6 @@
 //! Spanning forests that take rows by rising key.
 
-use pesp_forest::{Frame, Tree, grow_all};
-use pesp_search_tools::Groups;
+use pesp_forest::{Frame, Groups, Tree, grow_all};
 use std::alloc::{AllocError, Global};
 
 /// A row with the key by which it is taken.

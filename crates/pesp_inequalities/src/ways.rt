@@ -7,7 +7,7 @@ use std::alloc::{AllocError, Global};
 
 /// A walk, and the part of it that leads down, from below.
 #[derive(Drop)]
-pub(crate) struct Way {
+pub(crate) struct TreeWalk {
     passes: Vec<Pass>,
     down: Vec<Pass>,
 }
@@ -41,10 +41,10 @@ fn row_up(frame: &Frame, tree: &Tree, first: u32, second: u32) -> Option<Climb> 
     })
 }
 
-impl Way {
+impl TreeWalk {
     /// No walk.
-    pub(crate) fn new(alloc: Global) -> Way {
-        Way {
+    pub(crate) fn new(alloc: Global) -> TreeWalk {
+        TreeWalk {
             passes: Vec::new(alloc),
             down: Vec::new(alloc),
         }
@@ -111,7 +111,7 @@ impl Way {
 pub fn walks_by(alloc: Global, frame: &Frame, keys: &[i64]) -> Result<Vec<Vec<Pass>>, AllocError> {
     let mut spanning = Spanning::new(alloc, frame)?;
     spanning.draw(frame, keys);
-    let mut way = Way::new(alloc);
+    let mut way = TreeWalk::new(alloc);
     let mut walks = Vec::new(alloc);
     for place in 0..frame.rows().len() {
         let row = u32::try_from(place).unwrap_or(u32::MAX);

@@ -4,7 +4,7 @@ use Rattle.std.proofs.lemmas.List.Sums.{prefix_len-le-length}
 use Rattle.std.specs.List.{list_all, prefix_len}
 use Rattle.std.specs.Str.Parse.{digits_value}
 use Rattle.std.proofs.lemmas.Bool.Decides.{nat_tests}
-use Rattle.pesp_instance.specs.Number.{IsFraction, IsSign, Spells, no_fraction, zeros_only, no_sign, plus, minus, all_blank, digit_count, has_minus, is_blank, is_digit, may_end, number_of, past_blanks, past_sign, unsigned_number, with_sign}
+use Rattle.pesp_instance.specs.Number.{IsFraction, IsSign, Spells, no_fraction, zeros_only, no_sign, plus, minus, all_blank, digit_count, has_minus, is_blank, is_digit, may_follow_digits, number_of, past_blanks, past_sign, unsigned_number, with_sign}
 use Rattle.pesp_instance.proofs.Leads.{and-left, and-right}
 
 -- a run that passes a test, and then a byte that does not
@@ -48,7 +48,7 @@ blanks-stop p fails [] h = refl
 blanks-stop p fails (b ∷ after) h = stops p b after (fails b (and-left (is_blank b) (all_blank after) h))
 
 -- what follows the digits ends the number
-ends : (fraction after : List ℕ) → IsFraction fraction → all_blank after ≡ true → may_end (fraction ++ after) ≡ true
+ends : (fraction after : List ℕ) → IsFraction fraction → all_blank after ≡ true → may_follow_digits (fraction ++ after) ≡ true
 ends [] [] f h = refl
 ends [] (b ∷ after) f h = let d = blank-no-dot b (and-left (is_blank b) (all_blank after) h) in rw d h
 ends (x ∷ xs) after (zeros_only zeros z) h =
@@ -133,11 +133,11 @@ record SplitEnd (r : List ℕ) : Type 0 where
   split : r ≡ fraction ++ after
   blank : all_blank after ≡ true
 
-end-split : (r : List ℕ) → may_end r ≡ true → SplitEnd r
+end-split : (r : List ℕ) → may_follow_digits r ≡ true → SplitEnd r
 end-split [] e = record { fraction = []; after = []; fractioned = no_fraction; split = refl; blank = refl }
 end-split (b ∷ r) e = by (b == 46) refl e
   where
-    by : (x : Bool) → (b == 46) ≡ x → may_end (b ∷ r) ≡ true → SplitEnd (b ∷ r)
+    by : (x : Bool) → (b == 46) ≡ x → may_follow_digits (b ∷ r) ≡ true → SplitEnd (b ∷ r)
     by true f h =
         let p : b ≡ 46 = eqb-true b 46 f in
         let g : all_blank (drop (prefix_len (λ c. c == 48) r) r) ≡ true = rw f at h in
@@ -155,14 +155,14 @@ end-split (b ∷ r) e = by (b == 46) refl e
 record SplitNumber (u : List ℕ) (v : ℕ) : Type 0 where
   low : 1 ≤ digit_count u
   high : digit_count u ≤ 18
-  ends : may_end (drop (digit_count u) u) ≡ true
+  ends : may_follow_digits (drop (digit_count u) u) ≡ true
   value : v ≡ digits_value 10 (take (digit_count u) u)
 
 number-split : (u : List ℕ) (v : ℕ) → unsigned_number u ≡ Some v → SplitNumber u v
-number-split u v e = by (nat_le 1 (digit_count u)) (nat_le (digit_count u) 18) (may_end (drop (digit_count u) u)) refl refl refl e
+number-split u v e = by (nat_le 1 (digit_count u)) (nat_le (digit_count u) 18) (may_follow_digits (drop (digit_count u) u)) refl refl refl e
   where
     by : (x y z : Bool) → nat_le 1 (digit_count u) ≡ x → nat_le (digit_count u) 18 ≡ y
-        → may_end (drop (digit_count u) u) ≡ z → unsigned_number u ≡ Some v → SplitNumber u v
+        → may_follow_digits (drop (digit_count u) u) ≡ z → unsigned_number u ≡ Some v → SplitNumber u v
     by true true true a b c h =
         let g : ◌≡◌ {A = Option ℕ} (Some (digits_value 10 (take (digit_count u) u))) (Some v) = rw (a, b, c) at h in
         record { low = leb-true 1 (digit_count u) a; high = leb-true (digit_count u) 18 b; ends = c; value = cc }

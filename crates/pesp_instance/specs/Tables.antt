@@ -23,5 +23,5 @@ abbrev pub Holds : Result (List Activity) ReadRefusal → Table → Type 0
 Holds wanted table = (activities : List Activity) × (wanted ≡ Ok activities) × IsTable table.rows.items table.events.keys activities
 
 -- why there is none: memory, or the refusal that is wanted
-abbrev pub Refuses : Result (List Activity) ReadRefusal → ReadRefusal → Type 0
-Refuses wanted e = (e ≡ Memory) ⊎ (wanted ≡ Err e)
+abbrev pub RefusesActivities : Result (List Activity) ReadRefusal → ReadRefusal → Type 0
+RefusesActivities wanted e = (e ≡ Memory) ⊎ (wanted ≡ Err e)

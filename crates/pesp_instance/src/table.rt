@@ -5,7 +5,7 @@ ghost use Rattle.pesp_problem.specs.declared.limits.TheConstants.{MOST_EVENTS};
 ghost use Rattle.csv.specs.Records.{fields_of};
 ghost use Rattle.indexmap.specs.IndexSet.{index_set_len};
 ghost use Rattle.pesp_instance.specs.Activities.{activity_of, admit, and_then};
-ghost use Rattle.pesp_instance.specs.Tables.{Holds, IsTable, Refuses};
+ghost use Rattle.pesp_instance.specs.Tables.{Holds, IsTable, RefusesActivities};
 ghost use Rattle.pesp_instance.specs.declared.activity.Activity.{Activity};
 ghost use Rattle.pesp_instance.specs.declared.refusal.ReadRefusal.TheVariants.{Memory};
 
@@ -51,7 +51,7 @@ impl Table {
             self.new) }
         ensures refused { (before : List Activity)
             → IsTable self.old.rows.items self.old.events.keys before
-            → IfErr result (Refuses
+            → IfErr result (RefusesActivities
             (and_then (activity_of at (fields_of line.now)) (admit before at))) }
     {
         match read_activity(at, line) {
@@ -67,7 +67,7 @@ impl Table {
         ensures added { (before : List Activity) → IsTable self.old.rows.items self.old.events.keys
             before → OnOk result (Holds (admit before at activity) self.new) }
         ensures refused { (before : List Activity) → IsTable self.old.rows.items
-            self.old.events.keys before → IfErr result (Refuses (admit before at activity)) }
+            self.old.events.keys before → IfErr result (RefusesActivities (admit before at activity)) }
     {
         if self.rows.len() >= MAX_ROWS {
             return Err(ReadRefusal::TooManyRows { at });

@@ -3,7 +3,7 @@
 ghost use Rattle.std.specs.Prelude.{◌≡◌, ◌≤◌, ◌⊎◌, [], List, Ok, Err, IfOk, IfErr, length};
 ghost use Rattle.pesp_problem.specs.declared.limits.TheConstants.{MOST_PERIOD};
 ghost use Rattle.pesp_instance.specs.Activities.{activities_after};
-ghost use Rattle.pesp_instance.specs.Tables.{Holds, Refuses};
+ghost use Rattle.pesp_instance.specs.Tables.{Holds, RefusesActivities};
 ghost use Rattle.pesp_instance.specs.Instance.{instance_of, pesp_of};
 ghost use Rattle.pesp_instance.specs.Reading.{AreActivities, IsFirstRefusal};
 ghost use Rattle.pesp_instance.specs.Records.{records_of};
@@ -58,7 +58,7 @@ pub fn read_instance(alloc: Global, text: &[u8], period: u32) -> Result<Instance
 fn read_table(alloc: Global, text: &[u8]) -> Result<Table, ReadRefusal>
     requires { length text.now ≤ 16777216 }
     ensures table { IfOk result (Holds (activities_after [] (records_of text.now))) }
-    ensures refused { IfErr result (Refuses (activities_after [] (records_of text.now))) }
+    ensures refused { IfErr result (RefusesActivities (activities_after [] (records_of text.now))) }
 {
     let mut reader = ReaderBuilder::new()
         .has_headers(false)

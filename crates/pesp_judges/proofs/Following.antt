@@ -9,12 +9,12 @@ use Rattle.std.proofs.lemmas.Bool.{cases_eq}
 use Rattle.pesp_problem.specs.declared.arc.Arc.{Arc}
 use Rattle.pesp_problem.specs.declared.row.SignedRow.{SignedRow}
 use Rattle.pesp_problem.specs.Walks.{Names, RowExists, AreRows, Leads, start, finish, sign, net_count}
-use Rattle.pesp_nets.specs.Nets.{AreZeros}
+use Rattle.pesp_problem.specs.Nets.{AreZeros}
 use Rattle.pesp_leaves.specs.Nets.{AreCounts, ArePlaces, IsEntered}
 use Rattle.pesp_judges.specs.declared.walks.Way.{Way}
 use Rattle.pesp_judges.specs.declared.walks.Way.TheVariants.{Missing, Open, Closed}
 use Rattle.pesp_judges.specs.Ways.{IsWay, IsWayOf}
-use Rattle.pesp_nets.proofs.Counts.{eq-true, count_step, net_count_small}
+use Rattle.pesp_problem.proofs.Counts.{eq-true, count_step, net_count_small}
 use Rattle.pesp_judges.proofs.Reading.{Came, came_none, came_within, came_here, came_more, came_all}
 use Rattle.pesp_leaves.proofs.Flowing.{exist_more}
 

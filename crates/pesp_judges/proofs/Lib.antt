@@ -6,6 +6,7 @@ pub mod Judged
 pub mod Faults
 pub mod Shutting
 pub mod Options
-pub mod PlainLeaves
-pub mod MarkedLeaves
+pub mod Judging
 pub mod MarkedClosing
+pub mod Placing
+pub mod Telling

@@ -10,8 +10,8 @@ use Rattle.pesp_judges.specs.declared.refusal.Refusal.{Refusal}
 use Rattle.pesp_judges.specs.declared.refusal.Refusal.TheVariants.{OpenWalk, NoSuch}
 use Rattle.pesp_judges.specs.Faults.{IsWalkFault, IsFirstOpen, IsMarkFault}
 use Rattle.pesp_judges.proofs.Closing.{first_open, walks_more}
-use Rattle.pesp_nets.specs.declared.marked.MarkedRow.{MarkedRow}
-use Rattle.pesp_nets.specs.Marked.{signed_rows, IsMarkedWalk}
+use Rattle.pesp_problem.specs.declared.marked.MarkedRow.{MarkedRow}
+use Rattle.pesp_problem.specs.Marked.{signed_rows, IsMarkedWalk}
 
 module _ (arcs : List Arc) (walks : List (List MarkedRow)) (k : ℕ) (walk : List MarkedRow)
     (within : k < length walks) (is : walk ≡ get_or walks k walk) where

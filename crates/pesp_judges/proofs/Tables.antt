@@ -14,8 +14,8 @@ use Rattle.pesp_problem.specs.Arcs.{Net, net_of, arcs_of, arc_of, arc_at, no_arc
 use Rattle.pesp_problem.specs.Walks.{IsWalk, Names}
 use Rattle.pesp_problem.specs.Nodes.{cycle_at, root_slacks, slack_range, odijk_range}
 use Rattle.pesp_problem.proofs.Integers.{sum_below-zero}
-use Rattle.pesp_nets.specs.declared.nets.NetCount.{NetCount}
-use Rattle.pesp_nets.specs.Nets.{AreNetCounts, AreNets, nets_at}
+use Rattle.pesp_problem.specs.declared.nets.NetCount.{NetCount}
+use Rattle.pesp_problem.specs.Nets.{AreNetCounts, AreNets, nets_at}
 use Rattle.pesp_leaves.specs.Offsets.{AreSlackRanges}
 use Rattle.pesp_leaves.specs.Ranges.{idle_sum, idle_term}
 use Rattle.pesp_leaves.proofs.Arcs.{arcs_long}

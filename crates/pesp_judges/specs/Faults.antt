@@ -1,5 +1,5 @@
 -- The first fault of a certificate, in the order in which faults are told.
-use Rattle.std.specs.Prelude.{◌≡◌, ◌⊎◌, ℕ, ◌+◌, ◌-◌, ◌<◌, List, [], length, map, ℤ, pos, ◌≤ℤ◌, ◌<ℤ◌, All, Option, Some, None, IsNone, IsSomeAnd, IfSome}
+use Rattle.std.specs.Prelude.{◌≡◌, ◌⊎◌, ℕ, ◌+◌, ◌-◌, ◌<◌, List, [], ◌∷◌, ◌++◌, length, map, ℤ, pos, ◌≤ℤ◌, ◌<ℤ◌, All, Option, Some, None, IsNone, IsSomeAnd, IfSome}
 use Rattle.pesp_problem.specs.declared.row.SignedRow.{SignedRow}
 use Rattle.pesp_problem.specs.declared.arc.Arc.{Arc}
 use Rattle.pesp_problem.specs.Timetables.{Pesp, AreTimes, IsTimetable, cost}
@@ -7,13 +7,14 @@ use Rattle.pesp_problem.specs.Scores.{IsFirstViolated}
 use Rattle.pesp_problem.specs.Arcs.{Net, arcs_of, net_of}
 use Rattle.pesp_problem.specs.Walks.{Names, AreRows, IsWalk}
 use Rattle.pesp_problem.specs.Nodes.{Node, cycle_at, root, offsets_left, low_part, high_part}
+use Rattle.pesp_problem.specs.declared.marked.MarkedRow.{MarkedRow}
+use Rattle.pesp_problem.specs.Marked.{signed_rows, IsMarkedWalk}
 use Rattle.pesp_truth.specs.declared.answer.Answer.{Answer}
 use Rattle.pesp_truth.specs.declared.answer.Answer.TheVariants.{Optimal, Infeasible, Bounded}
-use Rattle.pesp_nets.specs.declared.marked.MarkedRow.{MarkedRow}
-use Rattle.pesp_nets.specs.Marked.{signed_rows, IsMarkedWalk}
-use Rattle.pesp_truth.specs.Marks.{Marks, front_lines}
-use Rattle.pesp_truth.specs.Trees.{Tree, Ends, Branch, Leaf, Bound, Shut, Reason, ByPairs, ByGap, ByPropagation, preorder, CutExists, PairsExist, cost_by, lack_by, IsShut, IsSound}
-use Rattle.pesp_truth.specs.Certificates.{Content, IsValid, ShowsAnswer, shown_labels, shown_times, least_of, cost_of, lines_of}
+use Rattle.pesp_truth.specs.Lemmas.{Lemma, NamesRows}
+use Rattle.pesp_truth.specs.Trees.{Tree, Ends, Branch, Leaf, Bound, Shut, Reason, ByPairs, ByGap, ByPropagation, Line, line_of, preorder, CutExists, Claim, goal_of, PairsExist, bound_by, lack_by, IsShut, IsSound}
+use Rattle.pesp_truth.specs.Shown.{LemmaProof, lemma_lines, lemma_claim, IsShownLemma, AreShownLemmas}
+use Rattle.pesp_truth.specs.Certificates.{Content, Front, front_lines, claim_of, IsValid, ShowsAnswer, shown_labels, shown_times, least_of, cost_of, lines_of}
 use Rattle.pesp_judges.specs.declared.refusal.Refusal.{Refusal}
 use Rattle.pesp_judges.specs.declared.refusal.Refusal.TheVariants.{OtherPeriod, Times, Violates, WrongCost, OpenWalk, NoSuch, LeafBelow, NotEmpty, NotAGap, BoundInInfeasible, AnswerShape, NotPropagated}
 use Rattle.pesp_judges.specs.declared.refusal.Verdict.{Verdict}
@@ -68,34 +69,39 @@ IsCycleFault arcs cycles line refusal =
 -- ---- the tree
 
 -- what is wrong with a reason at a node; its leaf stands in this line
-abbrev pub IsReasonFault : Option Marks → Net → List (List SignedRow) → Reason → Node → ℕ → Refusal → Type 0
-IsReasonFault front n table (ByPairs pairs) node line refusal =
-    ((refusal ≡ NoSuch line) × (PairsExist front table pairs → ⊥))
-    ⊎ ((refusal ≡ NotEmpty line) × PairsExist front table pairs
-    × (IsSomeAnd (lack_by front n table node pairs) (λ v. pos 0 <ℤ v) → ⊥))
-IsReasonFault front n table (ByGap cycle) node line refusal =
+abbrev pub IsReasonFault : Claim → Net → List (List SignedRow) → Reason → Node → ℕ → Refusal → Type 0
+IsReasonFault claim n table (ByPairs pairs) node line refusal =
+    ((refusal ≡ NoSuch line) × (PairsExist claim table pairs → ⊥))
+    ⊎ ((refusal ≡ NotEmpty line) × PairsExist claim table pairs
+    × (IsSomeAnd (lack_by claim n table node pairs) (λ v. pos 0 <ℤ v) → ⊥))
+IsReasonFault claim n table (ByGap cycle) node line refusal =
     ((refusal ≡ NoSuch line) × (Names (length table) cycle → ⊥))
     ⊎ ((refusal ≡ NotAGap line) × Names (length table) cycle
     × (IsNone (offsets_left n table node (cycle - 1)) → ⊥))
-IsReasonFault front n table ByPropagation node line refusal = (refusal ≡ NotPropagated line) × (IsShut front n table ByPropagation node → ⊥)
+IsReasonFault claim n table ByPropagation node line refusal = (refusal ≡ NotPropagated line) × (IsShut claim n table ByPropagation node → ⊥)
 
 -- what is wrong with a leaf at a node; the leaf stands in this line
-abbrev pub IsLeafFault : Option Marks → Net → List (List SignedRow) → Option ℕ → Leaf → Node → ℕ → Refusal → Type 0
-IsLeafFault front n table least (Bound pairs) node line refusal =
-    ((refusal ≡ NoSuch line) × (PairsExist front table pairs → ⊥))
-    ⊎ ((refusal ≡ BoundInInfeasible line) × PairsExist front table pairs × (least ≡ None))
-    ⊎ ((refusal ≡ LeafBelow line) × PairsExist front table pairs
-    × ((c : ℕ) × (least ≡ Some c) × (IsSomeAnd (cost_by front n table node pairs) (λ v. pos c ≤ℤ v) → ⊥)))
-IsLeafFault front n table least (Shut reason) node line refusal = IsReasonFault front n table reason node line refusal
+abbrev pub IsLeafFault : Claim → Net → List (List SignedRow) → Leaf → Node → ℕ → Refusal → Type 0
+IsLeafFault claim n table (Bound pairs) node line refusal =
+    ((refusal ≡ NoSuch line) × (PairsExist claim table pairs → ⊥))
+    ⊎ ((refusal ≡ BoundInInfeasible line) × PairsExist claim table pairs × ((goal_of n claim).least ≡ None))
+    ⊎ ((refusal ≡ LeafBelow line) × PairsExist claim table pairs
+    × ((c : ℤ) × ((goal_of n claim).least ≡ Some c) × (IsSomeAnd (bound_by claim n table node pairs) (λ v. c ≤ℤ v) → ⊥)))
+IsLeafFault claim n table (Shut reason) node line refusal = IsReasonFault claim n table reason node line refusal
 
 -- the first fault of a tree at a node, in preorder; the tree's lines begin with this line
-abbrev pub IsTreeFault : Option Marks → Net → List (List SignedRow) → Option ℕ → Tree → Node → ℕ → Refusal → Type 0
-IsTreeFault front n table least (Ends leaf) node line refusal = IsLeafFault front n table least leaf node line refusal
-IsTreeFault front n table least (Branch cut low high) node line refusal =
+abbrev pub IsTreeFault : Claim → Net → List (List SignedRow) → Tree → Node → ℕ → Refusal → Type 0
+IsTreeFault claim n table (Ends leaf) node line refusal = IsLeafFault claim n table leaf node line refusal
+IsTreeFault claim n table (Branch cut low high) node line refusal =
     ((refusal ≡ NoSuch line) × (CutExists n table cut → ⊥))
-    ⊎ (CutExists n table cut × IsTreeFault front n table least low (low_part node cut) (line + 1) refusal)
-    ⊎ (CutExists n table cut × IsSound front n table least low (low_part node cut)
-    × IsTreeFault front n table least high (high_part node cut) (line + 1 + length (preorder low)) refusal)
+    ⊎ (CutExists n table cut × IsTreeFault claim n table low (low_part node cut) (line + 1) refusal)
+    ⊎ (CutExists n table cut × IsSound claim n table low (low_part node cut)
+    × IsTreeFault claim n table high (high_part node cut) (line + 1 + length (preorder low)) refusal)
+
+-- the same of the tree that lines are, at the root
+abbrev pub IsLinesTreeFault : Claim → Net → List (List SignedRow) → List Line → ℕ → Refusal → Type 0
+IsLinesTreeFault claim n table lines line refusal = (tree : Tree) × (preorder tree ≡ lines)
+    × IsTreeFault claim n table tree (root n table) line refusal
 
 -- ---- the marked walks of a front
 
@@ -107,46 +113,60 @@ IsMarkFault arcs cycles line walks refusal =
     × (((refusal ≡ NoSuch (line + number)) × (AreRows arcs (cycle_at (map signed_rows walks) (number - 1)) → ⊥))
     ⊎ ((refusal ≡ OpenWalk (cycles + number)) × AreRows arcs (cycle_at (map signed_rows walks) (number - 1))))
 
--- the same of a front, where there is one: its first walk stands in line 3
-abbrev pub IsMarksFault : Option Marks → List Arc → ℕ → Refusal → Type 0
-IsMarksFault None arcs cycles refusal = ⊥
-IsMarksFault (Some marks) arcs cycles refusal = IsMarkFault arcs cycles 2 marks.walks refusal
+-- ---- the lemmas of a front
+
+-- what is wrong with a lemma whose rows stand in the line `at`: a row doesn't exist, then its cycles, its marked walks, its tree
+abbrev pub IsLemmaFault : Net → List Lemma → LemmaProof → ℕ → Refusal → Type 0
+IsLemmaFault n earlier s at refusal =
+    ((refusal ≡ NoSuch at) × (NamesRows n.arcs s.fact.weights → ⊥))
+    ⊎ (NamesRows n.arcs s.fact.weights × IsCycleFault n.arcs s.cycles (at + 2 + length s.marks.walks) refusal)
+    ⊎ (NamesRows n.arcs s.fact.weights × All (IsWalk n.arcs) s.cycles
+    × IsMarkFault n.arcs (length s.cycles) (at + 2) s.marks.walks refusal)
+    ⊎ (NamesRows n.arcs s.fact.weights × All (IsWalk n.arcs) s.cycles × All (IsMarkedWalk n.arcs) s.marks.walks
+    × IsLinesTreeFault (lemma_claim earlier s) n s.cycles (map line_of s.tree)
+    (at + 3 + length s.marks.walks + length s.cycles) refusal)
+
+-- the first fault of lemmas, of which the first begins in the line `at`
+abbrev pub IsLemmasFault : Net → List Lemma → List LemmaProof → ℕ → Refusal → Type 0
+IsLemmasFault n earlier [] at refusal = ⊥
+IsLemmasFault n earlier (s ∷ shown) at refusal = IsLemmaFault n earlier s at refusal
+    ⊎ (IsShownLemma n earlier s × IsLemmasFault n (earlier ++ s.fact ∷ []) shown (at + lemma_lines s) refusal)
 
 -- ---- the certificate
 
 -- the number in the whole text of a line of the certificate's own: behind a front, where there is one
-abbrev pub behind_front : Option Marks → ℕ → ℕ
-behind_front None line = line
-behind_front (Some marks) line = line + front_lines (Some marks)
+abbrev pub own_line : Option Front → ℕ → ℕ
+own_line None line = line
+own_line (Some f) line = front_lines f + line
 
--- the line before the first cycle's: a front, the header, the period, the answer, and the times
-abbrev pub line_before_cycles : Option Marks → Content → ℕ
-line_before_cycles front content = behind_front front (3 + length content.times)
+-- the first fault of the lemmas of a front, where there is one
+abbrev pub IsFrontFault : Option Front → Pesp → Refusal → Type 0
+IsFrontFault front p refusal = IsSomeAnd front (λ f. IsLemmasFault (net_of p) [] f.lemmas (3 + length f.marks.walks) refusal)
 
--- the first line of the tree
-abbrev pub first_tree_line : Option Marks → Content → ℕ
-first_tree_line front content = behind_front front (4 + length content.times + length content.cycles)
+-- the first marked walk of a front that isn't closed, where there is a front: its first walk stands in line 3
+abbrev pub IsMarksFault : Option Front → Pesp → ℕ → Refusal → Type 0
+IsMarksFault front p cycles refusal = IsSomeAnd front (λ f. IsMarkFault (arcs_of p) cycles 2 f.marks.walks refusal)
 
 -- the answer, then the cycles, then the marked walks, then the tree, of a certificate with the instance's period
-abbrev pub IsLaterFault : Option Marks → Pesp → Content → Refusal → Type 0
+abbrev pub IsLaterFault : Option Front → Pesp → Content → Refusal → Type 0
 IsLaterFault front p content refusal =
     IsAnswerFault p content.answer (shown_labels content) (shown_times content) refusal
     ⊎ (ShowsAnswer p content.answer (shown_labels content) (shown_times content)
-    × IsCycleFault (arcs_of p) content.cycles (line_before_cycles front content) refusal)
+    × IsCycleFault (arcs_of p) content.cycles (own_line front (3 + length content.times)) refusal)
     ⊎ (ShowsAnswer p content.answer (shown_labels content) (shown_times content) × All (IsWalk (arcs_of p)) content.cycles
-    × IsMarksFault front (arcs_of p) (length content.cycles) refusal)
+    × IsMarksFault front p (length content.cycles) refusal)
     ⊎ (ShowsAnswer p content.answer (shown_labels content) (shown_times content) × All (IsWalk (arcs_of p)) content.cycles
-    × IfSome front (λ marks. All (IsMarkedWalk (arcs_of p)) marks.walks)
-    × ((tree : Tree) × (preorder tree ≡ lines_of content)
-    × IsTreeFault front (net_of p) content.cycles (least_of content.answer) tree (root (net_of p) content.cycles)
-    (first_tree_line front content) refusal))
+    × IfSome front (λ f. All (IsMarkedWalk (arcs_of p)) f.marks.walks)
+    × IsLinesTreeFault (claim_of front (net_of p) (least_of content.answer)) (net_of p) content.cycles (lines_of content)
+    (own_line front (4 + length content.times + length content.cycles)) refusal)
 
--- the first thing that is wrong with a certificate
-abbrev pub IsFirstFault : Option Marks → Pesp → Content → Refusal → Type 0
-IsFirstFault front p content refusal =
-    ((refusal ≡ OtherPeriod) × (content.period ≡ p.period → ⊥)) ⊎ ((content.period ≡ p.period) × IsLaterFault front p content refusal)
+-- the first thing that is wrong with a certificate: the lemmas of its front come first
+abbrev pub IsFirstFault : Option Front → Pesp → Content → Refusal → Type 0
+IsFirstFault front p content refusal = IsFrontFault front p refusal
+    ⊎ (IfSome front (λ f. AreShownLemmas (net_of p) [] f.lemmas) × (((refusal ≡ OtherPeriod) × (content.period ≡ p.period → ⊥))
+    ⊎ ((content.period ≡ p.period) × IsLaterFault front p content refusal)))
 
 -- what a verdict says: accepted are the valid certificates, and a refusal is the first fault
-abbrev pub IsVerdict : Option Marks → Pesp → Content → Verdict → Type 0
+abbrev pub IsVerdict : Option Front → Pesp → Content → Verdict → Type 0
 IsVerdict front p content Accepted = IsValid front p content
 IsVerdict front p content (Refused refusal) = IsFirstFault front p content refusal

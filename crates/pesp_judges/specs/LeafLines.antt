@@ -2,8 +2,8 @@
 use Rattle.std.specs.Prelude.{List}
 use Rattle.pesp_problem.specs.declared.pair.Pair.{Pair}
 use Rattle.pesp_truth.specs.Trees.{Leaf, Bound, Nothing, Gap}
-use Rattle.pesp_judges.specs.declared.leaf_line.LeafLine.{LeafLine}
-use Rattle.pesp_judges.specs.declared.leaf_line.LeafLine.TheVariants.{Bound as SaysBound, Nothing as SaysNothing, Gap as SaysGap}
+use Rattle.pesp_judges.specs.declared.leaf.LeafLine.{LeafLine}
+use Rattle.pesp_judges.specs.declared.leaf.LeafLine.TheVariants.{Bound as SaysBound, Nothing as SaysNothing, Gap as SaysGap}
 use Rattle.pesp_leaves.specs.Flows.{ArePairLimits}
 
 -- the leaf that is said

@@ -5,3 +5,4 @@ pub mod Lines
 pub mod LeafLines
 pub mod SaidLines
 pub mod Ways
+pub mod Showing

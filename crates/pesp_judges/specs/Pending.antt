@@ -4,10 +4,10 @@ use Rattle.pesp_problem.specs.declared.limits.TheConstants.{MOST_PERIOD}
 use Rattle.pesp_problem.specs.declared.cut.Cut.TheVariants.{Slack, Offset}
 use Rattle.pesp_problem.specs.Timetables.{Pesp}
 use Rattle.pesp_problem.specs.Nodes.{Node}
-use Rattle.pesp_nets.specs.declared.path.Change.{Change}
-use Rattle.pesp_nets.specs.declared.path.Change.TheVariants.{Slack as SlackChange, Offset as OffsetChange}
-use Rattle.pesp_nets.specs.declared.path.Branch.{Branch}
-use Rattle.pesp_nets.specs.Ranges.{IsCut}
+use Rattle.pesp_problem.specs.declared.path.Change.{Change}
+use Rattle.pesp_problem.specs.declared.path.Change.TheVariants.{Slack as SlackChange, Offset as OffsetChange}
+use Rattle.pesp_problem.specs.declared.path.Branch.{Branch}
+use Rattle.pesp_problem.specs.Ranges.{IsCut}
 
 -- a change that a cut can make among so many rows and cycles
 abbrev pub IsChange : ℕ → ℕ → Change → Type 0

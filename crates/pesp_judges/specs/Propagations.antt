@@ -5,5 +5,5 @@ use Rattle.pesp_problem.specs.Arcs.{net_of}
 use Rattle.pesp_support.specs.Supports.{Rows}
 
 -- the net of an instance, between all its events
-abbrev pub rows_of : Pesp → Rows
-rows_of p = record { net = net_of p; events = length p.events }
+abbrev pub net_rows : Pesp → Rows
+net_rows p = record { net = net_of p; events = length p.events }

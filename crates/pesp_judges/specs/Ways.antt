@@ -5,11 +5,11 @@ use Rattle.pesp_problem.specs.declared.arc.Arc.{Arc}
 use Rattle.pesp_problem.specs.Timetables.{Pesp}
 use Rattle.pesp_problem.specs.Arcs.{arcs_of}
 use Rattle.pesp_problem.specs.Walks.{AreRows, IsWalk, Leads}
-use Rattle.pesp_nets.specs.declared.nets.NetCount.{NetCount}
+use Rattle.pesp_problem.specs.declared.nets.NetCount.{NetCount}
 use Rattle.pesp_judges.specs.declared.refusal.Refusal.{Refusal}
 use Rattle.pesp_judges.specs.declared.walks.Way.{Way}
 use Rattle.pesp_judges.specs.declared.walks.Way.TheVariants.{Missing, Open, Closed}
-use Rattle.pesp_nets.specs.Nets.{AreNetCounts}
+use Rattle.pesp_problem.specs.Nets.{AreNetCounts}
 use Rattle.pesp_judges.specs.Faults.{IsWalkFault}
 
 -- what is said of rows that are followed from an event: they don't all exist, or they don't lead back to it, or they do

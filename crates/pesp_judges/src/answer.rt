@@ -1,7 +1,6 @@
 //! What an answer says, and whether it shows what it has to.
 
 ghost use Rattle.std.specs.Prelude.{◌≡◌, ◌↔◌, IsTrue, map, length, IfOk, MatchOption};
-ghost use Rattle.pesp_truth.specs.Certificates as certificates;
 ghost use Rattle.pesp_truth.specs.Certificates.{ShowsTimetable, ShowsAnswer};
 ghost use Rattle.pesp_judges.specs.Faults.{HasShape, IsTimesFault, IsAnswerFault};
 ghost use Rattle.pesp_judges.specs.Faults as spec;
@@ -10,28 +9,6 @@ use crate::refusal::Refusal;
 use pesp_problem::{Instance, Score, score};
 use pesp_truth::Answer;
 use std::alloc::{AllocError, Global};
-
-/// The cost of the shown times, where the answer has one.
-fn cost_of(answer: Answer) -> Option<u64>
-    ensures { result ≡ certificates.cost_of answer }
-{
-    match answer {
-        Answer::Optimal(cost) => Some(cost),
-        Answer::Infeasible => None,
-        Answer::Bounded { cost, .. } => cost,
-    }
-}
-
-/// The least cost for which the tree has to be sound.
-pub fn least_of(answer: Answer) -> Option<u64>
-    ensures { result ≡ certificates.least_of answer }
-{
-    match answer {
-        Answer::Optimal(cost) => Some(cost),
-        Answer::Infeasible => None,
-        Answer::Bounded { least, .. } => Some(least),
-    }
-}
 
 /// Whether no times are shown without a cost, and a least cost is below the cost.
 fn has_shape(answer: Answer, times: &[(i64, u32)]) -> bool
@@ -113,7 +90,7 @@ pub fn judge_answer(
     if !has_shape(answer, times) {
         return Ok(Some(Refusal::AnswerShape));
     }
-    match cost_of(answer) {
+    match answer.cost() {
         Some(cost) => judge_times(alloc, instance, times, cost),
         None => Ok(None),
     }

@@ -1,14 +1,13 @@
 //! What a cut changes of the ranges, and how it is taken back.
 
 ghost use Rattle.std.specs.Prelude.{◌≡◌, ◌-◌, length};
-ghost use Rattle.pesp_nets.specs.Ranges.{AreSlackEnds, IsCut};
+ghost use Rattle.pesp_problem.specs.Ranges.{AreSlackEnds, IsCut};
 ghost use Rattle.pesp_leaves.specs.Ranges.{node_of, AreRanges};
-ghost use Rattle.pesp_nets.specs.Pending.{change_of, restored};
+ghost use Rattle.pesp_problem.specs.Pending.{change_of, restored};
 ghost use Rattle.pesp_judges.specs.Pending.{IsChange};
 
 use pesp_leaves::{Ranges, set_slack};
-use pesp_nets::Change;
-use pesp_problem::{Cut, Instance};
+use pesp_problem::{Change, Cut, Instance};
 
 /// What a cut is going to change.
 pub fn change_of(ranges: &Ranges, cut: Cut) -> Change

@@ -3,15 +3,14 @@
 ghost use Rattle.std.specs.Prelude.{[], ◌∷◌, ◌≡◌, ◌<◌, ◌≤◌, ◌^◌, length, All, IfOk, OnOk, MatchOption};
 ghost use Rattle.pesp_problem.specs.declared.limits.TheConstants.{MOST_CYCLES};
 ghost use Rattle.pesp_problem.specs.Arcs.{arcs_of};
-ghost use Rattle.pesp_nets.specs.Nets.{AreZeros};
-ghost use Rattle.pesp_nets.specs.Marked.{signed_rows, IsMarkedWalk};
+ghost use Rattle.pesp_problem.specs.Nets.{AreZeros};
+ghost use Rattle.pesp_problem.specs.Marked.{signed_rows, IsMarkedWalk};
 ghost use Rattle.pesp_judges.specs.Faults.{IsMarkFault};
 
 use crate::refusal::Refusal;
 use crate::walks::judge_cycle;
 use pesp_leaves::Elements;
-use pesp_nets::MarkedRow;
-use pesp_problem::{Instance, SignedRow};
+use pesp_problem::{Instance, MarkedRow, SignedRow};
 use pesp_truth::Marks;
 use std::alloc::{AllocError, Global};
 

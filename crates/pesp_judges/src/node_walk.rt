@@ -3,19 +3,18 @@
 ghost use Rattle.std.specs.Prelude.{◌≡◌, ◌≢◌, ◌↔◌, IsTrue, List, [], ◌∷◌, true, length, reverse, drop, IfOk, OnOk, OnErr, None};
 ghost use Rattle.pesp_problem.specs.declared.row.SignedRow.{SignedRow};
 ghost use Rattle.pesp_problem.specs.Arcs.{net_of};
-ghost use Rattle.pesp_truth.specs.Trees.{IsShut, ByPropagation};
-ghost use Rattle.pesp_judges.specs.Propagations.{rows_of};
+ghost use Rattle.pesp_truth.specs.Trees.{Plain, IsShut, ByPropagation};
+ghost use Rattle.pesp_judges.specs.Propagations.{net_rows};
 ghost use Rattle.pesp_problem.specs.Nodes.{Node};
-ghost use Rattle.pesp_nets.specs.Ranges.{IsCut};
+ghost use Rattle.pesp_problem.specs.Ranges.{IsCut};
 ghost use Rattle.pesp_leaves.specs.Ranges.{node_of, AreRanges};
-ghost use Rattle.pesp_nets.specs.Pending.{pending, waiting, branched};
+ghost use Rattle.pesp_problem.specs.Pending.{pending, waiting, branched};
 ghost use Rattle.pesp_judges.specs.Pending.{AreChanges, Standing};
 
 use crate::branch::{change_of, put_back};
 use crate::propagation::shuts;
 use pesp_leaves::{Ranges, take_part};
-use pesp_nets::Branch;
-use pesp_problem::{Cut, Instance, Side};
+use pesp_problem::{Branch, Cut, Instance, Side};
 use pesp_support::Support;
 use std::alloc::{AllocError, Global};
 use std::marker::Model;
@@ -81,7 +80,7 @@ fn next_part(instance: &Instance, ranges: &mut Ranges, path: &mut Vec<Branch>) -
 
 /// The pass of propagation over an instance.
 fn pass_of(alloc: Global, instance: &Instance) -> Result<Support, AllocError>
-    ensures { IfOk result (λ pass. pass ≡ rows_of instance.now) }
+    ensures { IfOk result (λ pass. pass ≡ net_rows instance.now) }
 {
     match Support::of(alloc, instance) {
         Ok(pass) => Ok(pass),
@@ -105,9 +104,9 @@ impl<'a> Model for NodeWalk<'a> {
     ghost use Rattle.pesp_leaves.specs.Ranges.{node_of, AreRanges};
     ghost use Rattle.std.specs.Prelude.{◌≡◌};
     ghost use Rattle.std.specs.Option.{ForSome};
-    ghost use Rattle.pesp_nets.specs.Pending.{waiting};
+    ghost use Rattle.pesp_problem.specs.Pending.{waiting};
     ghost use Rattle.pesp_judges.specs.Pending.{AreChanges, Standing};
-    ghost use Rattle.pesp_judges.specs.Propagations.{rows_of};
+    ghost use Rattle.pesp_judges.specs.Propagations.{net_rows};
 
     ghost Value = { Standing };
 
@@ -119,7 +118,7 @@ impl<'a> Model for NodeWalk<'a> {
 
     ghost invariant = { λ w. AreRanges w.instance.now w.ranges
         × AreChanges (length w.instance.now.rows) (length w.ranges.offsets.items) w.path.items
-        × ForSome w.pass (λ pass. pass ≡ rows_of w.instance.now) };
+        × ForSome w.pass (λ pass. pass ≡ net_rows w.instance.now) };
 }
 
 impl<'a> NodeWalk<'a> {
@@ -180,7 +179,7 @@ impl<'a> NodeWalk<'a> {
         ensures shut { IfOk result
             (λ shut. (node : Node) × (rest : List Node) × (self.old.nodes ≡ node ∷ rest)
             × ((walks : List (List SignedRow))
-            → IsTrue shut ↔ IsShut None (net_of self.old.problem) walks ByPropagation node)) }
+            → IsTrue shut ↔ IsShut (Plain None) (net_of self.old.problem) walks ByPropagation node)) }
     {
         let mut pass = match self.pass.take() {
             Some(pass) => pass,

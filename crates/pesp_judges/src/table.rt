@@ -5,13 +5,12 @@ ghost use Rattle.pesp_problem.specs.declared.row.SignedRow.{SignedRow};
 ghost use Rattle.pesp_problem.specs.Arcs.{net_of};
 ghost use Rattle.pesp_problem.specs.Limits.{KeepsLimits};
 ghost use Rattle.pesp_problem.specs.Nodes as nodes;
-ghost use Rattle.pesp_nets.specs.Nets.{AreSmallCounts, AreNets};
+ghost use Rattle.pesp_problem.specs.Nets.{AreSmallCounts, AreNets};
 ghost use Rattle.pesp_leaves.specs.Offsets.{AreSlackRanges};
 ghost use Rattle.pesp_leaves.specs.Ranges.{node_of, AreRanges};
 
 use pesp_leaves::{Ranges, duration_sums, odijk_range};
-use pesp_nets::Nets;
-use pesp_problem::{Instance, arc_of};
+use pesp_problem::{Instance, Nets, arc_of};
 use std::alloc::{AllocError, Global};
 
 /// The slack ranges of the root: from 0 to the row's span.

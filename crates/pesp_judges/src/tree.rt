@@ -1,22 +1,20 @@
 //! The tree of a certificate, line by line.
 
-ghost use Rattle.std.specs.Prelude.{◌≡◌, ◌≢◌, ◌↔◌, ℕ, ◌<◌, IsTrue, List, [], length, IfOk, IfNone, Option, IfSome};
+ghost use Rattle.std.specs.Prelude.{◌≡◌, ◌≢◌, ◌↔◌, ℕ, ◌<◌, IsTrue, List, [], length, IfOk, IfNone};
 ghost use Rattle.pesp_problem.specs.declared.row.SignedRow.{SignedRow};
 ghost use Rattle.pesp_problem.specs.Arcs.{net_of};
-ghost use Rattle.pesp_truth.specs.Marks.{Marks};
-ghost use Rattle.pesp_truth.specs.Trees.{CutLine, EndLine, Shut, ByPropagation};
-ghost use Rattle.pesp_nets.specs.Nets.{AreZeros, AreNets};
+ghost use Rattle.pesp_truth.specs.Trees.{Claim, CutLine, EndLine, Shut, ByPropagation};
+ghost use Rattle.pesp_leaves.specs.Claims.{TellsOf, HasRoom};
+ghost use Rattle.pesp_problem.specs.Nets.{AreZeros, AreNets};
 ghost use Rattle.pesp_judges.specs.Lines.{after, IsLineVerdict, CutIsNamed, IsSmallCut};
 ghost use Rattle.pesp_judges.specs.LeafLines.{leaf_said, KeepsLeafLimits};
 ghost use Rattle.pesp_judges.specs.SaidLines.{line_said, KeepsSaidLimits};
 
-use crate::leaf_judge::judge_leaf;
-use crate::leaf_line::{LeafLine, names};
+use crate::leaf::{LeafLine, judge_leaf, names};
 use crate::node_walk::NodeWalk;
 use crate::refusal::Refusal;
 use pesp_leaves::{Checker, Elements};
-use pesp_nets::Rates;
-use pesp_problem::{Cut, Instance, Pair};
+use pesp_problem::{Cut, Instance, Pair, Rates};
 use std::alloc::{AllocError, Global};
 
 /// A line of the tree as a text or a list says it: a branch, a leaf, or a leaf that propagation closes.
@@ -38,7 +36,7 @@ fn cut_exists(instance: &Instance, cycles: usize, cut: Cut) -> bool
 }
 
 /// Takes a branch: it is judged at the first of the nodes that wait, and its two parts wait in place of it then.
-pub fn take_branch(
+fn take_branch(
     checker: &Checker<'_>,
     walk: &mut NodeWalk<'_>,
     cut: Cut,
@@ -50,9 +48,9 @@ pub fn take_branch(
     requires limits { IsSmallCut cut }
     ensures problem { walk.new.problem ≡ checker.now.instance.now }
     ensures cycles { walk.new.cycles ≡ length checker.now.table.now }
-    ensures verdict { IfOk result (λ found. (front : Option Marks) (walks : List (List SignedRow)) (least : Option ℕ)
+    ensures verdict { IfOk result (λ found. (walks : List (List SignedRow)) (claim : Claim)
         → AreNets (length checker.now.instance.now.rows) walks checker.now.table.now
-        → IsLineVerdict front (net_of checker.now.instance.now) walks least (CutLine cut) walk.old.nodes
+        → IsLineVerdict claim (net_of checker.now.instance.now) walks (CutLine cut) walk.old.nodes
         walk.new.nodes line found) }
     ensures nodes { IfOk result
         (λ found. IfNone found (walk.new.nodes ≡ after (CutLine cut) walk.old.nodes)) }
@@ -71,6 +69,7 @@ fn take_leaf<P: Elements<Pair>>(
     leaf: LeafLine<P>,
     line: u64,
     flows: &mut [i128],
+    taken: &mut [i128],
     rates: &mut [Rates],
 ) -> Option<Refusal>
     requires problem { walk.old.problem ≡ checker.now.instance.now }
@@ -78,27 +77,26 @@ fn take_leaf<P: Elements<Pair>>(
     requires open { walk.old.nodes ≢ [] }
     requires limits { KeepsLeafLimits P.elements leaf }
     requires long { length flows.old ≡ length checker.now.instance.now.rows }
-    requires wide { IfSome checker.now.front.now
-        (λ marks. length rates.old ≡ length checker.now.instance.now.rows) }
+    requires room { HasRoom checker.now.claim (length checker.now.instance.now.rows) (length taken.old) (length rates.old) }
     requires zeros { AreZeros flows.old }
     ensures problem { walk.new.problem ≡ checker.now.instance.now }
     ensures cycles { walk.new.cycles ≡ length checker.now.table.now }
-    ensures verdict { (walks : List (List SignedRow))
+    ensures verdict { (walks : List (List SignedRow)) (claim : Claim)
         → AreNets (length checker.now.instance.now.rows) walks checker.now.table.now
-        → IsLineVerdict checker.now.front.now (net_of checker.now.instance.now) walks checker.now.least
+        → TellsOf checker.now.claim claim → IsLineVerdict claim (net_of checker.now.instance.now) walks
         (EndLine (leaf_said P.elements leaf)) walk.old.nodes walk.new.nodes line result }
     ensures nodes { IfNone result
         (walk.new.nodes ≡ after (EndLine (leaf_said P.elements leaf)) walk.old.nodes) }
     ensures zeros { AreZeros flows.new }
 {
-    let found = judge_leaf(checker, walk.ranges(), leaf, line, flows, rates);
+    let found = judge_leaf(checker, walk.ranges(), leaf, line, flows, taken, rates);
     walk.leaf();
     found
 }
 
 /// Takes a leaf that propagation closes: it is judged at the first of the nodes that wait, and the next one is the first
 /// then.
-pub fn take_propagated(
+fn take_propagated(
     alloc: Global,
     walk: &mut NodeWalk<'_>,
     line: u64,
@@ -106,8 +104,8 @@ pub fn take_propagated(
     requires open { walk.old.nodes ≢ [] }
     ensures problem { walk.new.problem ≡ walk.old.problem }
     ensures cycles { walk.new.cycles ≡ walk.old.cycles }
-    ensures verdict { IfOk result (λ found. (front : Option Marks) (walks : List (List SignedRow)) (least : Option ℕ)
-        → IsLineVerdict front (net_of walk.old.problem) walks least (EndLine (Shut ByPropagation))
+    ensures verdict { IfOk result (λ found. (claim : Claim) (walks : List (List SignedRow))
+        → IsLineVerdict claim (net_of walk.old.problem) walks (EndLine (Shut ByPropagation))
         walk.old.nodes walk.new.nodes line found) }
     ensures nodes { IfOk result (λ found. IfNone found
         (walk.new.nodes ≡ after (EndLine (Shut ByPropagation)) walk.old.nodes)) }
@@ -129,6 +127,7 @@ pub fn take_line<P: Elements<Pair>>(
     said: SaidLine<P>,
     line: u64,
     flows: &mut [i128],
+    taken: &mut [i128],
     rates: &mut [Rates],
 ) -> Result<Option<Refusal>, AllocError>
     requires problem { walk.old.problem ≡ checker.now.instance.now }
@@ -136,14 +135,13 @@ pub fn take_line<P: Elements<Pair>>(
     requires open { walk.old.nodes ≢ [] }
     requires limits { KeepsSaidLimits P.elements said }
     requires long { length flows.old ≡ length checker.now.instance.now.rows }
-    requires wide { IfSome checker.now.front.now
-        (λ marks. length rates.old ≡ length checker.now.instance.now.rows) }
+    requires room { HasRoom checker.now.claim (length checker.now.instance.now.rows) (length taken.old) (length rates.old) }
     requires zeros { AreZeros flows.old }
     ensures problem { walk.new.problem ≡ checker.now.instance.now }
     ensures cycles { walk.new.cycles ≡ length checker.now.table.now }
-    ensures verdict { IfOk result (λ found. (walks : List (List SignedRow))
+    ensures verdict { IfOk result (λ found. (walks : List (List SignedRow)) (claim : Claim)
         → AreNets (length checker.now.instance.now.rows) walks checker.now.table.now
-        → IsLineVerdict checker.now.front.now (net_of checker.now.instance.now) walks checker.now.least
+        → TellsOf checker.now.claim claim → IsLineVerdict claim (net_of checker.now.instance.now) walks
         (line_said P.elements said) walk.old.nodes walk.new.nodes line found) }
     ensures nodes { IfOk result (λ found. IfNone found
         (walk.new.nodes ≡ after (line_said P.elements said) walk.old.nodes)) }
@@ -151,7 +149,7 @@ pub fn take_line<P: Elements<Pair>>(
 {
     match said {
         SaidLine::Branch(cut) => take_branch(checker, walk, cut, line),
-        SaidLine::Leaf(leaf) => Ok(take_leaf(checker, walk, leaf, line, flows, rates)),
+        SaidLine::Leaf(leaf) => Ok(take_leaf(checker, walk, leaf, line, flows, taken, rates)),
         SaidLine::Propagated => take_propagated(alloc, walk, line),
     }
 }

@@ -5,15 +5,14 @@ ghost use Rattle.pesp_problem.specs.declared.limits.TheConstants.{MOST_CYCLES, M
 ghost use Rattle.pesp_problem.specs.Arcs.{arcs_of};
 ghost use Rattle.pesp_problem.specs.Walks.{RowExists, IsWalk};
 ghost use Rattle.pesp_problem.specs.Walks as spec;
-ghost use Rattle.pesp_nets.specs.Nets.{AreZeros, AreNets};
+ghost use Rattle.pesp_problem.specs.Nets.{AreZeros, AreNets};
 ghost use Rattle.pesp_leaves.specs.Nets.{AreCounts, ArePlaces};
 ghost use Rattle.pesp_judges.specs.Faults.{IsCycleFault};
 ghost use Rattle.pesp_judges.specs.Ways.{IsWay, IsWayOf, IsCycleVerdict};
 
 use crate::refusal::Refusal;
 use pesp_leaves::{Elements, arc_at, count_row, take_nets};
-use pesp_nets::Nets;
-use pesp_problem::{Instance, SignedRow, Walk};
+use pesp_problem::{Instance, Nets, SignedRow, Walk};
 use std::alloc::{AllocError, Global};
 
 /// Whether the row exists.

@@ -1,24 +1,23 @@
 //! Whether the lines of a certificate are a tree that is sound at the root.
 
-ghost use Rattle.std.specs.Prelude.{◌≡◌, ◌+◌, ◌≤◌, ◌<◌, ◌^◌, List, [], ◌∷◌, length, true, map, All, IfOk, MatchOption, IfSome};
+ghost use Rattle.std.specs.Prelude.{◌≡◌, ◌+◌, ◌≤◌, ◌<◌, ◌^◌, List, [], ◌∷◌, length, true, map, All, IfOk, MatchOption};
 ghost use Rattle.pesp_problem.specs.declared.limits.TheConstants.{MOST_LINES};
 ghost use Rattle.pesp_problem.specs.declared.row.SignedRow.{SignedRow};
 ghost use Rattle.pesp_problem.specs.Arcs.{net_of};
 ghost use Rattle.pesp_problem.specs.Nodes as nodes;
-ghost use Rattle.pesp_truth.specs.Trees.{AreSound, are_trees};
-ghost use Rattle.pesp_truth.specs.Certificates.{line_of};
-ghost use Rattle.pesp_nets.specs.Nets.{AreZeros, AreNets};
+ghost use Rattle.pesp_truth.specs.Trees.{Claim, AreSound, are_trees, line_of};
+ghost use Rattle.pesp_problem.specs.Nets.{AreZeros, AreNets};
+ghost use Rattle.pesp_leaves.specs.Claims.{TellsOf, HasRoom};
 ghost use Rattle.pesp_judges.specs.Lines.{IsLinesFault, KeepsLineLimits};
 ghost use Rattle.pesp_judges.specs.SaidLines.{line_said, KeepsSaidLimits};
 
-use crate::leaf_line::LeafLine;
+use crate::leaf::LeafLine;
 use crate::node_walk::NodeWalk;
 use crate::refusal::Refusal;
 use crate::table::root;
 use crate::tree::{SaidLine, take_line};
 use pesp_leaves::Checker;
-use pesp_nets::Rates;
-use pesp_problem::{Cut, Pair};
+use pesp_problem::{Cut, Pair, Rates};
 use pesp_truth::TreeLine;
 use std::alloc::{AllocError, Global};
 
@@ -41,13 +40,14 @@ pub fn said_by(tree_line: &TreeLine) -> SaidLine<&[Pair]>
 }
 
 /// The first fault of a tree at the root; its lines begin with the line `first`. The flows, one a row, are 0 before; behind a
-/// front there is a pair of rates for each row.
+/// front there are as many of what lemmas take, and as many rates.
 pub fn judge_tree(
     alloc: Global,
     checker: &Checker<'_>,
     lines: &[TreeLine],
     first: u64,
     flows: &mut [i128],
+    taken: &mut [i128],
     rates: &mut [Rates],
 ) -> Result<Option<Refusal>, AllocError>
     requires lines { All KeepsLineLimits lines.now }
@@ -55,15 +55,14 @@ pub fn judge_tree(
     requires first { first < 2 ^ 62 }
     requires few { length lines.now ≤ MOST_LINES }
     requires long { length flows.old ≡ length checker.now.instance.now.rows }
-    requires wide { IfSome checker.now.front.now
-        (λ marks. length rates.old ≡ length checker.now.instance.now.rows) }
+    requires room { HasRoom checker.now.claim (length checker.now.instance.now.rows) (length taken.old) (length rates.old) }
     requires zeros { AreZeros flows.old }
-    ensures { IfOk result (λ found. (walks : List (List SignedRow))
+    ensures { IfOk result (λ found. (walks : List (List SignedRow)) (claim : Claim)
         → AreNets (length checker.now.instance.now.rows) walks checker.now.table.now
-        → MatchOption found
-        (AreSound checker.now.front.now (net_of checker.now.instance.now) walks checker.now.least
+        → TellsOf checker.now.claim claim → MatchOption found
+        (AreSound claim (net_of checker.now.instance.now) walks
         (map line_of lines.now) (nodes.root (net_of checker.now.instance.now) walks ∷ []))
-        (λ refusal. IsLinesFault checker.now.front.now (net_of checker.now.instance.now) walks checker.now.least
+        (λ refusal. IsLinesFault claim (net_of checker.now.instance.now) walks
         (map line_of lines.now) (nodes.root (net_of checker.now.instance.now) walks ∷ []) first
         refusal)) }
 {
@@ -78,6 +77,7 @@ pub fn judge_tree(
             said_by(tree_line),
             line,
             flows,
+            taken,
             rates,
         )?;
         if found.is_some() {

@@ -4,8 +4,8 @@ use Rattle.std.proofs.lemmas.List.{length-map, get_or-map}
 use Rattle.pesp_problem.specs.declared.row.SignedRow.{SignedRow}
 use Rattle.pesp_problem.specs.Timetables.{Pesp, no_row, row_at}
 use Rattle.pesp_problem.specs.Arcs.{arcs_of, arc_of, arc_at, no_arc}
-use Rattle.pesp_nets.specs.declared.nets.NetCount.{NetCount}
-use Rattle.pesp_nets.specs.Nets.{AreNetCounts}
+use Rattle.pesp_problem.specs.declared.nets.NetCount.{NetCount}
+use Rattle.pesp_problem.specs.Nets.{AreNetCounts}
 
 pub arcs_long : (p : Pesp) → length (arcs_of p) ≡ length p.rows
 arcs_long p = length-map p.rows (arc_of p.period)

@@ -10,12 +10,12 @@ use Rattle.std.proofs.Math.IntN.{+ℤ_idl}
 use Rattle.pesp_problem.specs.declared.row.SignedRow.{SignedRow}
 use Rattle.pesp_problem.specs.Sums.{sum_below}
 use Rattle.pesp_problem.specs.Walks.{net_count}
-use Rattle.pesp_nets.specs.declared.nets.NetCount.{NetCount}
-use Rattle.pesp_nets.specs.Nets.{sum_of, AreNetCounts}
+use Rattle.pesp_problem.specs.declared.nets.NetCount.{NetCount}
+use Rattle.pesp_problem.specs.Nets.{sum_of, AreNetCounts}
 use Rattle.pesp_leaves.specs.Nets.{ArePlaces}
 use Rattle.pesp_problem.proofs.Integers.{sum_below-same}
 use Rattle.pesp_leaves.proofs.Sums.{held, held-take, held-zeros, small-set}
-use Rattle.pesp_nets.proofs.Counts.{eq-false, amounts_short, amount_is}
+use Rattle.pesp_problem.proofs.Counts.{eq-false, amounts_short, amount_is}
 
 -- the entries so far and what the working numbers still hold; what the places that are left don't name is collected
 pub record AreCollected (places : List ℕ) (initial working : List ℤ) (counts : List NetCount) (k : ℕ) : Type 0 where

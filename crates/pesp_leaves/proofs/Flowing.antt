@@ -7,15 +7,15 @@ use Rattle.std.proofs.lemmas.Bool.{cases_eq}
 use Rattle.std.proofs.lemmas.List.{get_or-set_same, get_or-set_other, length-set, get_or_default}
 use Rattle.std.proofs.lemmas.List.Elements.{All-cons, All-head, All-tail}
 use Rattle.std.proofs.lemmas.List.Sums.{fold_more, sum_by-cons, sum_by-take-le}
-use Rattle.pesp_nets.specs.declared.nets.NetCount.{NetCount}
+use Rattle.pesp_problem.specs.declared.nets.NetCount.{NetCount}
 use Rattle.pesp_problem.specs.declared.row.SignedRow.{SignedRow}
 use Rattle.pesp_problem.specs.declared.pair.Pair.{Pair}
 use Rattle.pesp_problem.specs.Walks.{Names, net_count}
 use Rattle.pesp_problem.specs.Nodes.{flow, cycle_at}
-use Rattle.pesp_nets.specs.Nets.{amount, AreSmallCounts, AreNetCounts, nets_at, AreNets}
-use Rattle.pesp_leaves.specs.Flows.{count_of, number_at, entries_at, ArePairs}
+use Rattle.pesp_problem.specs.Nets.{amount, AreSmallCounts, AreNetCounts, nets_at, AreNets}
+use Rattle.pesp_leaves.specs.Flows.{count_of, number_at, entries_at, ArePairsOf}
 use Rattle.pesp_problem.proofs.Integers.{mul-add, sum_below-single}
-use Rattle.pesp_nets.proofs.Counts.{eq-true, eq-false}
+use Rattle.pesp_problem.proofs.Counts.{eq-true, eq-false}
 
 one_small : (here : Bool) (count : ℤ) → unsigned_abs (if here then count else pos 0) ≤ unsigned_abs count
 one_small true count = omega arith
@@ -125,10 +125,10 @@ count_is n walk counts i h l =
     zero_either false = refl
 
 -- the first of the pairs that are left, and the others
-pub pairs_apart : (cycles : ℕ) (left rest : List Pair) (p : Pair) → left ≡ p ∷ rest → ArePairs cycles left
-    → (Names cycles p.cycle × (unsigned_abs p.mult ≤ 1000000000000)) × ArePairs cycles rest
+pub pairs_apart : (cycles : ℕ) (left rest : List Pair) (p : Pair) → left ≡ p ∷ rest → ArePairsOf cycles left
+    → (Names cycles p.cycle × (unsigned_abs p.mult ≤ 1000000000000)) × ArePairsOf cycles rest
 pairs_apart cycles left rest p is are =
-    let P : List Pair → Type 0 = ArePairs cycles in
+    let P : List Pair → Type 0 = ArePairsOf cycles in
     let Q : Pair → Type 0 = λ pair. Names cycles pair.cycle × (unsigned_abs pair.mult ≤ 1000000000000) in
     let both = subst P is are in
     (All-head Q p rest both.0, (All-tail Q p rest both.0, omega (arith, both.1)))
@@ -142,7 +142,7 @@ exist_more {X} P left rest x Q is here same =
 
 -- the flows of the pairs before those that are left
 pub record AreMade (n : ℕ) (table : List (List NetCount)) (pairs left : List Pair) (flows : List ℤ) : Type 0 where
-  pub exist : ArePairs (length table) left
+  pub exist : ArePairsOf (length table) left
   pub sum : (walks : List (List SignedRow)) → AreNets n walks table → (i : ℕ) → i < n
       → number_at flows i +ℤ flow walks left i ≡ flow walks pairs i
   pub size : (i : ℕ) → i < n → unsigned_abs (number_at flows i) + length left * 10 ^ 19 ≤ 100000 * 10 ^ 19
@@ -150,7 +150,7 @@ pub record AreMade (n : ℕ) (table : List (List NetCount)) (pairs left : List P
   pub untouched : (i : ℕ) → i < n → entries_at table pairs i ≤ entries_at table left i → number_at flows i ≡ pos 0
 
 pub made_none : (n : ℕ) (table : List (List NetCount)) (pairs : List Pair) (flows : List ℤ)
-    → ArePairs (length table) pairs → ((i : ℕ) → i < n → number_at flows i ≡ pos 0)
+    → ArePairsOf (length table) pairs → ((i : ℕ) → i < n → number_at flows i ≡ pos 0)
     → AreMade n table pairs pairs flows
 made_none n table pairs flows are zeros = record {
   exist = are;
@@ -162,7 +162,7 @@ made_none n table pairs flows are zeros = record {
 
 module _ (n : ℕ) (table : List (List NetCount)) (pairs left rest : List Pair) (p : Pair) (flows : List ℤ)
     (is : left ≡ p ∷ rest) (before : AreMade n table pairs left flows) where
-  exists : (Names (length table) p.cycle × (unsigned_abs p.mult ≤ 1000000000000)) × ArePairs (length table) rest
+  exists : (Names (length table) p.cycle × (unsigned_abs p.mult ≤ 1000000000000)) × ArePairsOf (length table) rest
   exists = pairs_apart (length table) left rest p is before.exist
 
   more_entries : (i : ℕ) → entries_at table left i ≡ count_by (λ e. e.place == i) (nets_at table (p.cycle - 1)) + entries_at table rest i

@@ -7,4 +7,8 @@ pub mod Taking
 pub mod Leaves
 pub mod Naming
 pub mod Summing
+pub mod Adding
+pub mod Kept
 pub mod Worth
+pub mod Reaching
+pub mod Weighing

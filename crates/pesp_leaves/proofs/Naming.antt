@@ -5,23 +5,23 @@ use Rattle.std.proofs.lemmas.List.Elements.{All-nil, All-cons, All-head, All-tai
 use Rattle.pesp_problem.specs.declared.pair.Pair.{Pair}
 use Rattle.pesp_problem.specs.Walks.{Names}
 use Rattle.pesp_leaves.specs.Flows.{ArePairLimits}
-use Rattle.pesp_leaves.specs.Flows.{ArePairs}
-use Rattle.pesp_truth.specs.Marks.{IsNamed, AreNamed, of_cycles, uses_walks}
-use Rattle.pesp_truth.proofs.Multipliers.{at_most}
+use Rattle.pesp_leaves.specs.Flows.{ArePairsOf}
+use Rattle.pesp_truth.specs.Named.{IsNamed, AreNamed, of_cycles, names_more}
+use Rattle.pesp_truth.proofs.Named.{at_most}
 
 module _ (cycles : ℕ) (left rest : List Pair) (pair : Pair) (is : left ≡ pair ∷ rest) where
   -- the pair names a cycle
   pub here_of_cycles : pair.cycle ≤ cycles → of_cycles cycles left ≡ pair ∷ of_cycles cycles rest
   here_of_cycles h = elim (at_most pair.cycle cycles) [ inl m ↦ rw (is, m.0) refl | inr m ↦ absurd (omega (arith, h, m.1)) ]
 
-  pub here_no_walk : pair.cycle ≤ cycles → uses_walks cycles left ≡ uses_walks cycles rest
+  pub here_no_walk : pair.cycle ≤ cycles → names_more cycles left ≡ names_more cycles rest
   here_no_walk h = elim (at_most pair.cycle cycles) [ inl m ↦ rw (is, m.0) refl | inr m ↦ absurd (omega (arith, h, m.1)) ]
 
   -- the pair names a marked walk
   pub over_of_cycles : cycles < pair.cycle → of_cycles cycles left ≡ of_cycles cycles rest
   over_of_cycles h = elim (at_most pair.cycle cycles) [ inl m ↦ absurd (omega (arith, h, m.1)) | inr m ↦ rw (is, m.0) refl ]
 
-  pub here_walk : cycles < pair.cycle → uses_walks cycles left ≡ true
+  pub here_walk : cycles < pair.cycle → names_more cycles left ≡ true
   here_walk h = elim (at_most pair.cycle cycles) [ inl m ↦ absurd (omega (arith, h, m.1)) | inr m ↦ rw (is, m.0) refl ]
 
   -- the limits of both
@@ -68,7 +68,7 @@ each_of_cycles cycles walks (pair ∷ pairs) named small =
 
 -- the pairs of cycles are pairs of a leaf
 pub are_pairs : (cycles walks : ℕ) (pairs : List Pair) → AreNamed cycles walks pairs → ArePairLimits pairs
-    → ArePairs cycles (of_cycles cycles pairs)
+    → ArePairsOf cycles (of_cycles cycles pairs)
 are_pairs cycles walks pairs named limits = (
   each_of_cycles cycles walks pairs named limits.0,
   omega (arith, few_of_cycles cycles pairs, limits.1),

@@ -12,15 +12,15 @@ use Rattle.pesp_problem.specs.Limits.{KeepsLimits}
 use Rattle.pesp_problem.specs.Arcs.{Net, arc_of, arcs_of, net_of}
 use Rattle.pesp_problem.specs.Walks.{AreRows, IsWalk, RowExists}
 use Rattle.pesp_leaves.specs.Flows.{ArePairLimits}
-use Rattle.pesp_nets.specs.declared.marked.MarkedRow.{MarkedRow}
-use Rattle.pesp_nets.specs.Marked.{signed_rows, IsMarkedWalk, rates_at as walk_rates}
-use Rattle.pesp_nets.specs.Sharp.{over_multiples}
-use Rattle.pesp_truth.specs.Marks.{IsNamed, AreNamed, walk_at, of_walks}
-use Rattle.pesp_truth.proofs.Multipliers.{at_most}
-use Rattle.pesp_nets.specs.declared.rates.Rates.{Rates}
-use Rattle.pesp_nets.specs.Rates.{rates_at, entry, AreSmallRates, AreNoRates}
-use Rattle.pesp_nets.specs.Terms.{AreSmallArcs}
-use Rattle.pesp_nets.proofs.Small.{marked_exist}
+use Rattle.pesp_problem.specs.declared.marked.MarkedRow.{MarkedRow}
+use Rattle.pesp_problem.specs.Marked.{signed_rows, IsMarkedWalk, rates_at as walk_rates}
+use Rattle.pesp_problem.specs.Sharp.{over_multiples}
+use Rattle.pesp_truth.specs.Named.{IsNamed, AreNamed, walk_at, of_walks}
+use Rattle.pesp_truth.proofs.Named.{at_most}
+use Rattle.pesp_problem.specs.declared.rates.Rates.{Rates}
+use Rattle.pesp_problem.specs.Rates.{rates_at, rate_of, AreSmallRates, AreNoRates}
+use Rattle.pesp_problem.specs.Terms.{AreSmallArcs}
+use Rattle.pesp_problem.proofs.Small.{marked_exist}
 use Rattle.pesp_leaves.specs.Gains.{gains_of, rates_of}
 use Rattle.pesp_leaves.proofs.Naming.{limits_apart, named_apart}
 
@@ -105,12 +105,12 @@ pub record AreSummed (n : Net) (slacks : List (ℕ × ℕ)) (cycles : ℕ) (walk
   pub gains_are : gains +ℤ gains_of n slacks cycles walks left ≡ gains_of n slacks cycles walks pairs
   pub size : unsigned_abs gains + length left * 10 ^ 20 ≤ 10 ^ 25
   pub rates_are : (i : ℕ) (flipped : Bool) → i < length rates
-      → entry flipped (rates_at rates i) +ℤ rates_of n slacks cycles walks left flipped i
+      → rate_of flipped (rates_at rates i) +ℤ rates_of n slacks cycles walks left flipped i
       ≡ rates_of n slacks cycles walks pairs flipped i
   pub small : (i : ℕ) (flipped : Bool) → i < length rates
-      → unsigned_abs (entry flipped (rates_at rates i)) + length left * 10 ^ 23 ≤ 100000 * 10 ^ 23
+      → unsigned_abs (rate_of flipped (rates_at rates i)) + length left * 10 ^ 23 ≤ 100000 * 10 ^ 23
 
-entry_none : (rates : List Rates) (i : ℕ) (flipped : Bool) → AreNoRates rates → i < length rates → entry flipped (rates_at rates i) ≡ pos 0
+entry_none : (rates : List Rates) (i : ℕ) (flipped : Bool) → AreNoRates rates → i < length rates → rate_of flipped (rates_at rates i) ≡ pos 0
 entry_none rates i true none l = ap (λ (r : Rates). r.flipped) (none i l)
 entry_none rates i false none l = ap (λ (r : Rates). r.plain) (none i l)
 
@@ -151,11 +151,11 @@ module _ (n : Net) (slacks : List (ℕ × ℕ)) (cycles : ℕ) (walks : List (Li
   pub summed_more : (gains' here : ℤ) (rates' : List Rates) → length rates' ≡ length rates → gains' ≡ gains +ℤ here
       → here ≡ gains_of n slacks cycles walks (pair ∷ []) → unsigned_abs here ≤ 10 ^ 20
       → ((i : ℕ) (flipped : Bool) → i < length rates
-      → entry flipped (rates_at rates' i) ≡ entry flipped (rates_at rates i)
+      → rate_of flipped (rates_at rates' i) ≡ rate_of flipped (rates_at rates i)
       +ℤ rates_of n slacks cycles walks (pair ∷ []) flipped i)
       → ((i : ℕ) (flipped : Bool) → i < length rates
-      → unsigned_abs (entry flipped (rates_at rates' i))
-      ≤ unsigned_abs (entry flipped (rates_at rates i)) + 10 ^ 23)
+      → unsigned_abs (rate_of flipped (rates_at rates' i))
+      ≤ unsigned_abs (rate_of flipped (rates_at rates i)) + 10 ^ 23)
       → AreSummed n slacks cycles walks pairs rest gains' rates'
   summed_more gains' here rates' long e h s added small = record {
     named = (named_apart cycles left rest pair is (length walks) before.named).1;
@@ -167,8 +167,8 @@ module _ (n : Net) (slacks : List (ℕ × ℕ)) (cycles : ℕ) (walks : List (Li
     size = omega (arith, ints, before.size, one_fewer, s, e);
     rates_are = λ i flipped l.
         let l' : i < length rates = omega (arith, l, long) in
-        next_sum (entry flipped (rates_at rates i)) (rates_of n slacks cycles walks left flipped i)
-        (entry flipped (rates_at rates' i)) (rates_of n slacks cycles walks (pair ∷ []) flipped i)
+        next_sum (rate_of flipped (rates_at rates i)) (rates_of n slacks cycles walks left flipped i)
+        (rate_of flipped (rates_at rates' i)) (rates_of n slacks cycles walks (pair ∷ []) flipped i)
         (rates_of n slacks cycles walks rest flipped i) (rates_of n slacks cycles walks pairs flipped i)
         (added i flipped l') (ap (λ (ps : List Pair). rates_of n slacks cycles walks ps flipped i) is
         ∙ over_more cycles walks pair rest _) (before.rates_are i flipped l');
@@ -185,9 +185,9 @@ module _ (n : Net) (slacks : List (ℕ × ℕ)) (cycles : ℕ) (walks : List (Li
   all_gains = sym (no_more gains) ∙ ap (λ (ps : List Pair). gains +ℤ gains_of n slacks cycles walks ps) (sym done) ∙ h.gains_are
 
   pub all_rates : (i : ℕ) (flipped : Bool) → i < length rates
-      → entry flipped (rates_at rates i) ≡ rates_of n slacks cycles walks pairs flipped i
-  all_rates i flipped l = sym (no_more (entry flipped (rates_at rates i)))
-      ∙ ap (λ (ps : List Pair). entry flipped (rates_at rates i) +ℤ rates_of n slacks cycles walks ps flipped i)
+      → rate_of flipped (rates_at rates i) ≡ rates_of n slacks cycles walks pairs flipped i
+  all_rates i flipped l = sym (no_more (rate_of flipped (rates_at rates i)))
+      ∙ ap (λ (ps : List Pair). rate_of flipped (rates_at rates i) +ℤ rates_of n slacks cycles walks ps flipped i)
       (sym done) ∙ h.rates_are i flipped l
 
   pub all_small : AreSmallRates 100000 rates

@@ -13,13 +13,13 @@ use Rattle.pesp_problem.specs.Timetables.{Pesp, no_row}
 use Rattle.pesp_problem.specs.Limits.{KeepsLimits, RowKeepsLimits}
 use Rattle.pesp_problem.specs.Arcs.{arcs_of, arc_at}
 use Rattle.pesp_problem.specs.Nodes.{weight_of, slack_range}
-use Rattle.pesp_nets.specs.declared.nets.NetCount.{NetCount}
-use Rattle.pesp_nets.specs.Nets.{AreZeros, nets_at}
+use Rattle.pesp_problem.specs.declared.nets.NetCount.{NetCount}
+use Rattle.pesp_problem.specs.Nets.{AreZeros, nets_at}
 use Rattle.pesp_leaves.specs.Offsets.{AreSlackRanges}
-use Rattle.pesp_nets.specs.Ranges.{lesser}
-use Rattle.pesp_leaves.specs.Flows.{number_at, entries_at, flow_term, flow_sum, AreSmallFlows, ArePairs}
-use Rattle.pesp_nets.proofs.Counts.{eq-false}
-use Rattle.pesp_nets.proofs.LeafValues.{weight_small}
+use Rattle.pesp_problem.specs.Ranges.{lesser}
+use Rattle.pesp_leaves.specs.Flows.{number_at, entries_at, flow_term, flow_sum, AreSmallFlows, ArePairsOf}
+use Rattle.pesp_problem.proofs.Counts.{eq-false}
+use Rattle.pesp_problem.proofs.LeafValues.{weight_small}
 use Rattle.pesp_leaves.proofs.Flowing.{pairs_apart}
 use Rattle.pesp_leaves.proofs.Sums.{sum_below-small, held-take, held-zeros, small-set}
 use Rattle.pesp_leaves.proofs.Arcs.{arc_is}
@@ -135,7 +135,7 @@ taken_all counts k i h = omega (arith, count_by-le-length (λ (e : NetCount). e.
 -- the flows that are not 0 are on rows of the pairs that are left
 pub record AreLeft (arcs : List Arc) (slacks : List (ℕ × ℕ)) (weighted : Bool) (table : List (List NetCount))
     (left : List Pair) (initial flows : List ℤ) (sum : ℤ) : Type 0 where
-  pub exist : ArePairs (length table) left
+  pub exist : ArePairsOf (length table) left
   pub sum_is : sum +ℤ flow_sum arcs slacks weighted flows ≡ flow_sum arcs slacks weighted initial
   pub small : AreSmallFlows flows
   pub touched : (i : ℕ) → i < length flows → entries_at table left i ≡ 0 → number_at flows i ≡ pos 0

@@ -1,75 +1,203 @@
--- The value of a leaf that names marked walks, put together from its parts.
-use Rattle.std.proofs.Common.{◌≡◌, ℕ, ◌<◌, ap, sym, ◌∙◌, List, length, Bool, true, Option, Some, None, refl}
-use Rattle.std.specs.Prelude.{ℤ, pos, ◌+ℤ◌, ◌*ℤ◌, option_map}
+-- The value of a leaf that names lemmas, put together from its parts.
+use Rattle.std.proofs.Common.{◌≡◌, ℕ, ◌+◌, ◌<◌, ◌≤◌, refl, ap, sym, ◌∙◌, List, [], ◌∷◌, length, Bool, true, false, Option, Some, None, arith, inl, inr}
+use Rattle.std.specs.Prelude.{ℤ, pos, ◌+ℤ◌, ◌-ℤ◌, ◌*ℤ◌, unsigned_abs, All, option_map, if◌then◌else◌}
+use Rattle.std.specs.Int.{int_min}
+use Rattle.std.proofs.lemmas.Int.{ints}
+use Rattle.std.proofs.lemmas.List.Elements.{All-nil, All-cons, All-head, All-tail}
 use Rattle.pesp_problem.specs.declared.row.SignedRow.{SignedRow}
 use Rattle.pesp_problem.specs.declared.pair.Pair.{Pair}
 use Rattle.pesp_problem.specs.Timetables.{Pesp}
-use Rattle.pesp_problem.specs.Arcs.{net_of, arcs_of}
-use Rattle.pesp_problem.specs.Nodes.{Node, flow, offset_part}
-use Rattle.pesp_nets.specs.Sharp.{Multipliers, sharp_value}
-use Rattle.pesp_truth.specs.Marks.{Marks, of_cycles, of_walks, uses_walks, scale_of, multipliers}
-use Rattle.pesp_nets.specs.declared.rates.Rates.{Rates}
-use Rattle.pesp_nets.specs.Rates.{rates_at, entry}
-use Rattle.pesp_nets.specs.Terms.{number_at, rows_sum}
-use Rattle.pesp_nets.proofs.RowValues.{AreOf, value_is}
-use Rattle.pesp_leaves.specs.Gains.{gains_of, rates_of}
+use Rattle.pesp_problem.specs.Arcs.{Net, arc_at, arcs_of, net_of, over_arcs}
+use Rattle.pesp_problem.specs.Nodes.{Node, slack_range, flow, offset_part}
+use Rattle.pesp_problem.proofs.Integers.{sum_below-same, sum_below-sub}
+use Rattle.pesp_problem.specs.Marked.{least_gain}
+use Rattle.pesp_problem.specs.Sharp.{Multipliers, over_multiples, rates}
+use Rattle.pesp_problem.specs.declared.rates.Rates.{Rates}
+use Rattle.pesp_problem.specs.Rates.{rates_at, rate_of}
+use Rattle.pesp_problem.specs.Terms.{number_at}
+use Rattle.pesp_problem.proofs.Small.{less}
+use Rattle.pesp_truth.specs.Marks.{Marks}
+use Rattle.pesp_truth.specs.Named.{AreNamed, IsNamed, of_cycles, of_walks, names_more, scale_of, of_lemmas, multipliers}
+use Rattle.pesp_truth.proofs.Named.{at_most}
+use Rattle.pesp_leaves.specs.Flows.{ArePairsOf, ArePairLimits}
+use Rattle.pesp_leaves.proofs.Naming.{are_pairs}
+use Rattle.pesp_leaves.specs.Gains.{gains_of}
+use Rattle.pesp_truth.specs.Lemmas.{Lemma}
+use Rattle.pesp_truth.specs.LemmaLeaves.{LemmaMultiple, over_lemmas, taken, least_lemma_excess, lemma_value}
+use Rattle.pesp_truth.specs.Trees.{value_by}
+use Rattle.pesp_truth.proofs.LemmaLeaves.{excess_at_low, excess_at_high}
+use Rattle.pesp_leaves.specs.Taken.{floor_of}
+use Rattle.pesp_leaves.specs.Terms.{unit_cost_left, row_term, rows_sum}
 
--- the multipliers of a leaf of this scale
-abbrev at_scale : ℕ → Marks → List Pair → ℕ → Multipliers
-at_scale cycles marks pairs scale = record { scale = scale; pairs = of_cycles cycles pairs; multiples = of_walks cycles marks.walks pairs }
+-- ---- what the calls want of the pairs
 
-scaled : (cycles : ℕ) (marks : Marks) (pairs : List Pair) (scale : ℕ) → scale ≡ scale_of marks (uses_walks cycles pairs)
-    → at_scale cycles marks pairs scale ≡ multipliers cycles marks pairs
-scaled cycles marks pairs scale is = ap (at_scale cycles marks pairs) is
+few_others : (others : ℕ) (pairs : List Pair) → length (of_cycles others pairs) ≤ length pairs
+few_others others [] = omega arith
+few_others others (pair ∷ pairs) =
+    let rest = few_others others pairs in
+    elim (at_most pair.cycle others) [ inl m ↦ rw m.0 (omega (arith, rest)) | inr m ↦ rw m.0 (omega (arith, rest)) ]
 
-pub scale_is : (cycles : ℕ) (marks : Marks) (pairs : List Pair) → uses_walks cycles pairs ≡ true
-    → (multipliers cycles marks pairs).scale ≡ marks.scale
-scale_is cycles marks pairs uses = ap (scale_of marks) uses
+each_other : (P : Pair → Type 0) (others : ℕ) (pairs : List Pair) → All P pairs → All P (of_cycles others pairs)
+each_other P others [] h = All-nil P
+each_other P others (pair ∷ pairs) h =
+    let rest = each_other P others pairs (All-tail P pair pairs h) in
+    elim (at_most pair.cycle others) [
+      | inl m ↦ rw m.0 (All-cons P pair (of_cycles others pairs) (All-head P pair pairs h) rest)
+      | inr m ↦ rw m.0 rest
+    ]
 
-module _ (p : Pesp) (table : List (List SignedRow)) (node : Node) (marks : Marks) (pairs : List Pair)
-    (weighted : Bool) (cycles scale : ℕ) (is_scale : scale ≡ scale_of marks (uses_walks cycles pairs))
-    (long : cycles ≡ length table) where
-  there : sharp_value (net_of p) table node (at_scale cycles marks pairs scale) weighted
-      ≡ sharp_value (net_of p) table node (multipliers (length table) marks pairs) weighted
-  there = ap (λ (m : Multipliers). sharp_value (net_of p) table node m weighted)
-      (scaled cycles marks pairs scale is_scale ∙ ap (λ (k : ℕ). multipliers k marks pairs) long)
+pub others_limits : (others : ℕ) (pairs : List Pair) → ArePairLimits pairs → ArePairLimits (of_cycles others pairs)
+others_limits others pairs h = (
+  each_other (λ pair. unsigned_abs pair.mult ≤ 1000000000000) others pairs h.0,
+  omega (arith, few_others others pairs, h.1),
+)
+
+below_others : (others : ℕ) (pairs : List Pair) → All (λ pair. pair.cycle ≤ others) (of_cycles others pairs)
+below_others others [] = All-nil (λ (pair : Pair). pair.cycle ≤ others)
+below_others others (pair ∷ pairs) =
+    let rest = below_others others pairs in
+    elim (at_most pair.cycle others) [
+      | inl m ↦ rw m.0 (All-cons (λ (p : Pair). p.cycle ≤ others) pair (of_cycles others pairs) m.1 rest)
+      | inr m ↦ rw m.0 rest
+    ]
+
+-- the others name cycles and walks
+pub others_named : (cycles walks facts others : ℕ) (pairs : List Pair) → others ≡ cycles + walks → AreNamed cycles (walks + facts) pairs
+    → AreNamed cycles walks (of_cycles others pairs)
+others_named cycles walks facts others pairs e h k d l =
+    let here = each_other (IsNamed cycles (walks + facts)) others pairs h k d l in
+    let below = below_others others pairs k d l in
+    ((here.0.0, omega (arith, below, e)), here.1)
+
+-- lemmas go on from all others
+pub lemmas_named : (cycles walks facts others : ℕ) (pairs : List Pair) → others ≡ cycles + walks → AreNamed cycles (walks + facts) pairs
+    → AreNamed others facts pairs
+lemmas_named cycles walks facts others pairs e h k d l =
+    let here = h k d l in ((here.0.0, omega (arith, here.0.1, e)), λ above. here.1 (omega (arith, above, e)))
+
+-- the pairs of cycles are pairs of a leaf
+pub cycle_pairs : (cycles walks facts others : ℕ) (pairs : List Pair) → others ≡ cycles + walks → AreNamed cycles (walks + facts) pairs
+    → ArePairLimits pairs → ArePairsOf cycles (of_cycles cycles (of_cycles others pairs))
+cycle_pairs cycles walks facts others pairs e named limits = are_pairs cycles walks (of_cycles others pairs)
+    (others_named cycles walks facts others pairs e named) (others_limits others pairs limits)
+
+-- ---- the rows
+
+-- the working numbers are those of the multipliers, the lemmas and the weights
+pub record AreOf (n : Net) (table : List (List SignedRow)) (node : Node) (m : Multipliers) (facts : List LemmaMultiple) (own : ℕ → ℤ)
+    (weights flows numbers : List ℤ) (all : List Rates) : Type 0 where
+  pub weights_are : (i : ℕ) → i < length n.arcs → number_at weights i ≡ own i
+  pub flows_are : (i : ℕ) → i < length n.arcs → number_at flows i ≡ flow table m.pairs i
+  pub taken_are : (i : ℕ) → i < length n.arcs → number_at numbers i ≡ taken facts i
+  pub rates_are : (i : ℕ) (flipped : Bool) → i < length n.arcs → rate_of flipped (rates_at all i) ≡ rates n node m flipped i
+
+lesser_of : {a b c d : ℤ} → a ≡ c → b ≡ d → int_min a b ≡ int_min c d
+lesser_of h k = cc
+
+same_end : (a b r s y w : ℤ) → a ≡ b → r ≡ s → a *ℤ y -ℤ r *ℤ w ≡ b *ℤ y -ℤ s *ℤ w
+same_end a b r s y w h k = cc
+
+module _ (n : Net) (table : List (List SignedRow)) (node : Node) (m : Multipliers) (facts : List LemmaMultiple) (own : ℕ → ℤ)
+    (weighted : Bool) (weights flows numbers : List ℤ) (all : List Rates)
+    (are : AreOf n table node m facts own weights flows numbers all) where
+  abbrev chosen : ℕ → ℤ
+  chosen i = if weighted then own i else pos 0
+
+  left_is : (i : ℕ) → i < length n.arcs
+      → unit_cost_left m.scale weighted (number_at weights i) (number_at flows i) (number_at numbers i)
+      ≡ pos m.scale *ℤ chosen i -ℤ flow table m.pairs i -ℤ taken facts i
+  left_is i l =
+      ap (λ z. unit_cost_left m.scale weighted z (number_at flows i) (number_at numbers i)) (are.weights_are i l)
+      ∙ ap (λ z. unit_cost_left m.scale weighted (own i) z (number_at numbers i)) (are.flows_are i l)
+      ∙ ap (λ z. unit_cost_left m.scale weighted (own i) (flow table m.pairs i) z) (are.taken_are i l)
+
+  term_is : (i : ℕ) → i < length n.arcs → row_term
+      (unit_cost_left m.scale weighted (number_at weights i) (number_at flows i) (number_at numbers i)) (slack_range node.slacks i)
+      (rates_at all i) (number_at flows i) (arc_at n.arcs i).lower
+      ≡ least_lemma_excess n table node m facts chosen i -ℤ flow table m.pairs i *ℤ (arc_at n.arcs i).lower
+  term_is i l = less (lesser_of
+      (same_end _ _ _ _ _ _ (left_is i l) (are.rates_are i true l) ∙ sym (excess_at_low n table node m facts chosen i))
+      (same_end _ _ _ _ _ _ (left_is i l) (are.rates_are i false l) ∙ sym (excess_at_high n table node m facts chosen i)))
+      (ap (λ (z : ℤ). z *ℤ (arc_at n.arcs i).lower) (are.flows_are i l))
+
+  rows_are : rows_sum n.arcs node.slacks weights weighted m.scale flows numbers all
+      ≡ over_arcs n.arcs (least_lemma_excess n table node m facts chosen) -ℤ over_arcs n.arcs
+      (λ i. flow table m.pairs i *ℤ (arc_at n.arcs i).lower)
+  rows_are = sum_below-same (length n.arcs) _ (λ i.
+      least_lemma_excess n table node m facts chosen i -ℤ flow table m.pairs i *ℤ (arc_at n.arcs i).lower) term_is
+      ∙ sum_below-sub (length n.arcs) (least_lemma_excess n table node m facts chosen)
+      (λ i. flow table m.pairs i *ℤ (arc_at n.arcs i).lower)
+
+  sum_of : (t z l g f e r : ℤ) → r ≡ e -ℤ l → ((t *ℤ z) -ℤ l +ℤ g +ℤ f) +ℤ e ≡ (t *ℤ z) +ℤ g +ℤ f +ℤ r
+  sum_of t z l g f e r h = omega (arith, ints)
+
+  -- the period times the offsets, the gains, the least sums and the rows
+  pub value_is : (z gains floors : ℤ) → offset_part n table node m.pairs ≡ Some z
+      → gains ≡ over_multiples m.multiples (λ walk. pos (least_gain n node.slacks walk))
+      → floors ≡ over_lemmas facts (λ fact. fact.least)
+      → lemma_value n table node m facts chosen ≡ Some
+      (pos n.period *ℤ z +ℤ gains +ℤ floors +ℤ rows_sum n.arcs node.slacks weights weighted m.scale flows numbers all)
+  value_is z gains floors o g f =
+      let rows = rows_sum n.arcs node.slacks weights weighted m.scale flows numbers all in
+      ap (option_map _) o ∙ ap Some (sum_of (pos n.period) z _ _ _ _ _ rows_are
+      ∙ ap (λ (x : ℤ). pos n.period *ℤ z +ℤ x +ℤ over_lemmas facts (λ fact. fact.least) +ℤ rows) (sym g)
+      ∙ ap (λ (x : ℤ). pos n.period *ℤ z +ℤ gains +ℤ x +ℤ rows) (sym f))
+
+-- ---- as the code finds them, by so many cycles, and cycles and walks, and a scale
+
+abbrev at_scale : ℕ → ℕ → Marks → List Pair → ℕ → Multipliers
+at_scale cycles others marks pairs scale = record {
+  scale = scale;
+  pairs = of_cycles cycles (of_cycles others pairs);
+  multiples = of_walks cycles marks.walks (of_cycles others pairs);
+}
+
+module _ (p : Pesp) (table : List (List SignedRow)) (node : Node) (marks : Marks) (facts : List Lemma) (pairs : List Pair)
+    (own : ℕ → ℤ) (weighted : Bool) (cycles others scale : ℕ) (is_scale : scale ≡ scale_of marks (names_more cycles pairs))
+    (is_others : others ≡ cycles + length marks.walks) (long : cycles ≡ length table) where
+  abbrev under : ℕ → ℤ
+  under i = if weighted then own i else pos 0
+
+  there : lemma_value (net_of p) table node (at_scale cycles others marks pairs scale) (of_lemmas others facts pairs) under
+      ≡ value_by marks facts (net_of p) table node pairs under
+  there = ap (λ (s : ℕ). lemma_value (net_of p) table node (at_scale cycles others marks pairs s) (of_lemmas others facts pairs) under) is_scale
+      ∙ ap (λ (o : ℕ). lemma_value (net_of p) table node (at_scale cycles o marks pairs (scale_of marks (names_more cycles pairs)))
+      (of_lemmas o facts pairs) under) is_others
+      ∙ ap (λ (k : ℕ). lemma_value (net_of p) table node (multipliers k marks pairs)
+      (of_lemmas (k + length marks.walks) facts pairs) under) long
 
   -- a cycle of a pair has no offset left
   pub no_value : ◌≡◌ {A = Option ℤ} None (option_map (λ z. pos p.period *ℤ z)
-      (offset_part (net_of p) table node (of_cycles cycles pairs)))
-      → ◌≡◌ {A = Option ℤ} None (sharp_value (net_of p) table node
-      (multipliers (length table) marks pairs) weighted)
-  no_value none = go (offset_part (net_of p) table node (of_cycles cycles pairs)) none _ ∙ there
+      (offset_part (net_of p) table node (of_cycles cycles (of_cycles others pairs))))
+      → ◌≡◌ {A = Option ℤ} None (value_by marks facts (net_of p) table node pairs under)
+  no_value none = go (offset_part (net_of p) table node (of_cycles cycles (of_cycles others pairs))) none _ ∙ there
     where
       go : (o : Option ℤ) → ◌≡◌ {A = Option ℤ} None (option_map (λ z. pos p.period *ℤ z) o) → (f : ℤ → ℤ)
           → ◌≡◌ {A = Option ℤ} None (option_map f o)
       go None e f = refl
       go (Some z) e f = cc
 
-  pub whole_value : (flows : List ℤ) (rates : List Rates) (offsets gains rows value : ℤ)
-      → ((i : ℕ) → i < length (arcs_of p) → number_at flows i ≡ flow table (of_cycles cycles pairs) i)
-      → ((i : ℕ) (flipped : Bool) → i < length (arcs_of p)
-      → entry flipped (rates_at rates i) ≡ rates_of (net_of p) node.slacks cycles marks.walks pairs flipped i)
+  pub whole_value : (weights flows numbers : List ℤ) (all : List Rates) (offsets gains floors rows value : ℤ)
+      → AreOf (net_of p) table node (at_scale cycles others marks pairs scale) (of_lemmas others facts pairs) own weights flows numbers all
       → ◌≡◌ {A = Option ℤ} (Some offsets) (option_map (λ z. pos p.period *ℤ z)
-      (offset_part (net_of p) table node (of_cycles cycles pairs)))
-      → gains ≡ gains_of (net_of p) node.slacks cycles marks.walks pairs
-      → rows ≡ rows_sum (arcs_of p) node.slacks weighted scale flows rates → value ≡ offsets +ℤ gains +ℤ rows
-      → ◌≡◌ {A = Option ℤ} (Some value) (sharp_value (net_of p) table node
-      (multipliers (length table) marks pairs) weighted)
-  whole_value flows rates offsets gains rows value flows_are rates_are part g r v =
-      go (offset_part (net_of p) table node (of_cycles cycles pairs)) refl part ∙ there
+      (offset_part (net_of p) table node (of_cycles cycles (of_cycles others pairs))))
+      → gains ≡ gains_of (net_of p) node.slacks cycles marks.walks (of_cycles others pairs)
+      → floors ≡ floor_of others facts pairs
+      → rows ≡ rows_sum (arcs_of p) node.slacks weights weighted scale flows numbers all
+      → value ≡ offsets +ℤ gains +ℤ floors +ℤ rows
+      → ◌≡◌ {A = Option ℤ} (Some value) (value_by marks facts (net_of p) table node pairs under)
+  whole_value weights flows numbers all offsets gains floors rows value are part g f r v =
+      go (offset_part (net_of p) table node (of_cycles cycles (of_cycles others pairs))) refl part ∙ there
     where
-      are : AreOf (net_of p) table node (at_scale cycles marks pairs scale) flows rates
-      are = record { flows = flows_are; rates = rates_are }
-
-      go : (o : Option ℤ) → offset_part (net_of p) table node (of_cycles cycles pairs) ≡ o
+      go : (o : Option ℤ) → offset_part (net_of p) table node (of_cycles cycles (of_cycles others pairs)) ≡ o
           → ◌≡◌ {A = Option ℤ} (Some offsets) (option_map (λ z. pos p.period *ℤ z) o)
-          → ◌≡◌ {A = Option ℤ} (Some value) (sharp_value (net_of p) table node
-          (at_scale cycles marks pairs scale) weighted)
+          → ◌≡◌ {A = Option ℤ} (Some value) (lemma_value (net_of p) table node
+          (at_scale cycles others marks pairs scale) (of_lemmas others facts pairs) under)
       go None is e = cc
       go (Some z) is e =
           let same : offsets ≡ pos p.period *ℤ z = cc in
-          let sum : value ≡ pos p.period *ℤ z +ℤ gains
-          +ℤ rows_sum (arcs_of p) node.slacks weighted scale flows rates = v
-          ∙ ap (λ x. x +ℤ gains +ℤ rows) same ∙ ap (λ x. pos p.period *ℤ z +ℤ gains +ℤ x) r in
-          ap Some sum ∙ sym (value_is (net_of p) table node (at_scale cycles marks pairs scale) weighted flows rates are z gains is g)
+          let sum : value ≡ pos p.period *ℤ z +ℤ gains +ℤ floors
+          +ℤ rows_sum (arcs_of p) node.slacks weights weighted scale flows numbers all = v
+          ∙ ap (λ x. x +ℤ gains +ℤ floors +ℤ rows) same ∙ ap (λ x. pos p.period *ℤ z +ℤ gains +ℤ floors +ℤ x) r in
+          ap Some sum ∙ sym (value_is (net_of p) table node (at_scale cycles others marks pairs scale) (of_lemmas others facts pairs)
+          own weighted weights flows numbers all are z gains floors is g f)

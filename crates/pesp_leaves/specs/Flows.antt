@@ -7,9 +7,9 @@ use Rattle.pesp_problem.specs.Sums.{sum_below}
 use Rattle.pesp_problem.specs.Arcs.{arc_at}
 use Rattle.pesp_problem.specs.Walks.{Names}
 use Rattle.pesp_problem.specs.Nodes.{slack_range, weight_of}
-use Rattle.pesp_nets.specs.declared.nets.NetCount.{NetCount}
-use Rattle.pesp_nets.specs.Nets.{sum_of, nets_at}
-use Rattle.pesp_nets.specs.Ranges.{lesser}
+use Rattle.pesp_problem.specs.declared.nets.NetCount.{NetCount}
+use Rattle.pesp_problem.specs.Nets.{sum_of, nets_at}
+use Rattle.pesp_problem.specs.Ranges.{lesser}
 
 -- the entries at place i, added up
 abbrev pub count_of : List NetCount → ℕ → ℤ
@@ -24,8 +24,8 @@ abbrev pub AreSmallFlows : List ℤ → Type 0
 AreSmallFlows flows = (i : ℕ) → i < length flows → unsigned_abs (number_at flows i) ≤ 10 ^ 24
 
 -- pairs of so many cycles, with multipliers within their limit
-abbrev pub ArePairs : ℕ → List Pair → Type 0
-ArePairs cycles pairs = All (λ pair. Names cycles pair.cycle × (unsigned_abs pair.mult ≤ MOST_MULTIPLIER)) pairs × (length pairs ≤ MOST_CYCLES)
+abbrev pub ArePairsOf : ℕ → List Pair → Type 0
+ArePairsOf cycles pairs = All (λ pair. Names cycles pair.cycle × (unsigned_abs pair.mult ≤ MOST_MULTIPLIER)) pairs × (length pairs ≤ MOST_CYCLES)
 
 -- few enough pairs, with multipliers within their limit
 abbrev pub ArePairLimits : List Pair → Type 0

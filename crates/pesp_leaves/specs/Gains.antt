@@ -2,10 +2,10 @@
 use Rattle.std.specs.Prelude.{ℕ, List, ℤ, pos, Bool}
 use Rattle.pesp_problem.specs.declared.pair.Pair.{Pair}
 use Rattle.pesp_problem.specs.Arcs.{Net}
-use Rattle.pesp_nets.specs.declared.marked.MarkedRow.{MarkedRow}
-use Rattle.pesp_nets.specs.Marked.{least_gain, rates_at}
-use Rattle.pesp_nets.specs.Sharp.{over_multiples}
-use Rattle.pesp_truth.specs.Marks.{of_walks}
+use Rattle.pesp_problem.specs.declared.marked.MarkedRow.{MarkedRow}
+use Rattle.pesp_problem.specs.Marked.{least_gain, rates_at}
+use Rattle.pesp_problem.specs.Sharp.{over_multiples}
+use Rattle.pesp_truth.specs.Named.{of_walks}
 
 -- what they gain at least, each times its multiplier
 abbrev pub gains_of : Net → List (ℕ × ℕ) → ℕ → List (List MarkedRow) → List Pair → ℤ

@@ -1,6 +1,6 @@
 -- The ranges of slacks that the code takes, and the offsets that they allow.
 use Rattle.std.specs.Prelude.{◌≡◌, ℕ, ◌≤◌, List, length, ℤ, pos, ◌*ℤ◌, unsigned_abs}
-use Rattle.pesp_nets.specs.Ranges.{AreSlackEnds}
+use Rattle.pesp_problem.specs.Ranges.{AreSlackEnds}
 
 -- a slack range for each of n rows, with ends that a cut can make
 abbrev pub AreSlackRanges : ℕ → List (ℕ × ℕ) → Type 0

@@ -1,62 +1,61 @@
 //! What the lines of a tree are judged by.
 
-ghost use Rattle.std.specs.Prelude.{◌≡◌, length, All, Some};
-ghost use Rattle.std.specs.Option.{ForSome};
-ghost use Rattle.pesp_problem.specs.Arcs.{arcs_of};
-ghost use Rattle.pesp_problem.specs.Walks.{RowExists};
-ghost use Rattle.pesp_nets.specs.Nets.{AreSmallCounts};
+ghost use Rattle.std.specs.Prelude.{◌≡◌, ◌≤◌, length, All};
+ghost use Rattle.pesp_problem.specs.declared.limits.TheConstants.{MOST_CYCLES};
+ghost use Rattle.pesp_problem.specs.Nets.{AreSmallCounts};
+ghost use Rattle.pesp_leaves.specs.Claims.{FitsClaim};
 
-use pesp_nets::Nets;
-use pesp_problem::{Arc, Instance};
-use pesp_truth::Marks;
+use pesp_problem::{Arc, Instance, Nets};
+use pesp_truth::{Lemma, Marks};
 
-/// What the lines of a certificate's tree are judged by: the instance, the net counts of the certificate's cycles, its front
-/// where it has one, and the least cost for which the tree has to be sound; none where it has to show that no timetable
-/// exists. Behind a front `arcs` are those of the instance, and the rows of the marked walks exist; else they may be none.
+/// What a tree behind a front is to show, and what its leaves may name beside cycles: marked walks and lemmas; the arcs of the
+/// instance, the weights of its rows in the sum of weight times slack, whether these are the instance's own, so that the sum is
+/// the cost, and what the sum is to be at least; none where the tree has to show that there is no timetable.
+#[derive(Clone, Copy)]
+pub struct Shown<'a> {
+    pub marks: &'a Marks,
+    pub facts: &'a [Lemma],
+    pub arcs: &'a [Arc],
+    pub weights: &'a [i64],
+    pub is_cost: bool,
+    pub least: Option<i64>,
+}
+
+/// What a tree is to show.
+///
+/// `Plain`: that each timetable costs at least this, or, where nothing stands, that there is none; its leaves name cycles alone.
+/// `Behind`: what is said behind a front.
+#[derive(Clone, Copy)]
+pub enum Claim<'a> {
+    Plain(Option<u64>),
+    Behind(Shown<'a>),
+}
+
+/// What the lines of a tree are judged by: the instance, the net counts of the tree's cycles, and what it is to show.
 #[derive(Clone, Copy)]
 pub struct Checker<'a> {
     pub instance: &'a Instance,
     pub table: &'a [Nets],
-    pub front: &'a Option<Marks>,
-    pub arcs: &'a [Arc],
-    pub least: Option<u64>,
+    pub claim: Claim<'a>,
+    ghost few: { length table.now ≤ MOST_CYCLES },
     ghost small: { All (AreSmallCounts (length instance.now.rows)) table.now },
-    ghost same: { ForSome front.now (λ marks. arcs.now ≡ arcs_of instance.now) },
-    ghost exist: { ForSome front.now (λ marks. All (λ walk. All (λ s. RowExists arcs.now s.signed) walk) marks.walks) },
+    ghost fits: { FitsClaim instance.now claim },
 }
 
 impl<'a> Checker<'a> {
-    /// A checker over the net counts of these cycles, and over the marked walks of a front.
-    pub fn new(
-        instance: &'a Instance,
-        table: &'a [Nets],
-        front: &'a Option<Marks>,
-        arcs: &'a [Arc],
-        least: Option<u64>,
-    ) -> Checker<'a>
+    /// A checker over the net counts of these cycles, for a tree that is to show this.
+    pub fn new(instance: &'a Instance, table: &'a [Nets], claim: Claim<'a>) -> Checker<'a>
+        requires few { length table.now ≤ MOST_CYCLES }
         requires small { All (AreSmallCounts (length instance.now.rows)) table.now }
-        requires same { ForSome front.now (λ marks. arcs.now ≡ arcs_of instance.now) }
-        requires exist { ForSome front.now (λ marks. All (λ walk. All (λ s. RowExists arcs.now s.signed) walk) marks.walks) }
+        requires fits { FitsClaim instance.now claim }
         ensures instance { result.instance.now ≡ instance.now }
         ensures table { result.table.now ≡ table.now }
-        ensures front { result.front.now ≡ front.now }
-        ensures least { result.least ≡ least }
+        ensures claim { result.claim ≡ claim.entry }
     {
         Checker {
             instance,
             table,
-            front,
-            arcs,
-            least,
+            claim,
         }
     }
-}
-
-/// The arcs of the instance, behind a front.
-pub fn arcs_behind<'a>(checker: &Checker<'a>, marks: &Marks) -> &'a [Arc]
-    requires front { checker.now.front.now ≡ Some marks.now }
-    ensures same { result.now ≡ arcs_of checker.now.instance.now }
-    ensures exist { All (λ walk. All (λ s. RowExists result.now s.signed) walk) marks.now.walks }
-{
-    checker.arcs
 }

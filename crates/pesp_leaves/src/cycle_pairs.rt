@@ -1,7 +1,7 @@
 //! The pairs of a leaf that name cycles.
 
 ghost use Rattle.std.specs.Prelude.{◌≡◌, [], ◌∷◌};
-ghost use Rattle.pesp_truth.specs.Marks.{of_cycles};
+ghost use Rattle.pesp_truth.specs.Named.{of_cycles};
 
 use crate::elements::Elements;
 use pesp_problem::Pair;

@@ -6,17 +6,16 @@ ghost use Rattle.pesp_problem.specs.declared.row.SignedRow.{SignedRow};
 ghost use Rattle.pesp_problem.specs.Arcs.{arcs_of, arc_at};
 ghost use Rattle.pesp_problem.specs.Limits.{KeepsLimits};
 ghost use Rattle.pesp_problem.specs.Nodes.{weight_of, slack_range, flow};
-ghost use Rattle.pesp_nets.specs.Nets.{AreSmallCounts, AreZeros, AreNets};
+ghost use Rattle.pesp_problem.specs.Nets.{AreSmallCounts, AreZeros, AreNets};
 ghost use Rattle.pesp_leaves.specs.Offsets.{AreSlackRanges};
-ghost use Rattle.pesp_nets.specs.Ranges.{lesser};
-ghost use Rattle.pesp_leaves.specs.Flows.{count_of, number_at, AreSmallFlows, ArePairs, flow_term, flow_sum, entries_at};
+ghost use Rattle.pesp_problem.specs.Ranges.{lesser};
+ghost use Rattle.pesp_leaves.specs.Flows.{count_of, number_at, AreSmallFlows, ArePairsOf, flow_term, flow_sum, entries_at};
 
 use crate::elements::Elements;
 use crate::nets::take;
 use crate::rows::arc_at;
-use pesp_nets::{NetCount, Nets};
 use pesp_problem::exact::{minus, plus, times};
-use pesp_problem::{Arc, Instance, Pair};
+use pesp_problem::{Arc, Instance, NetCount, Nets, Pair};
 
 /// A multiplier times a net count.
 fn product(mult: i64, count: i64) -> i128
@@ -48,7 +47,7 @@ fn add_flow(flows: &mut [i128], counts: &[NetCount], mult: i64)
 /// Makes the flows of the pairs out of flows that are 0.
 pub fn add_flows<P: Elements<Pair>>(flows: &mut [i128], table: &[Nets], pairs: P)
     requires table { All (AreSmallCounts (length flows.old)) table.now }
-    requires pairs { ArePairs (length table.now) (P.elements pairs) }
+    requires pairs { ArePairsOf (length table.now) (P.elements pairs) }
     requires zeros { AreZeros flows.old }
     ensures flows { (walks : List (List SignedRow)) → AreNets (length flows.old) walks table.now
         → (i : ℕ) → i < length flows.old → number_at flows.new i ≡ flow walks (P.elements pairs) i }
@@ -165,7 +164,7 @@ pub fn take_flows<P: Elements<Pair>>(
     requires limits { KeepsLimits instance.now }
     requires slacks { AreSlackRanges (length instance.now.rows) slacks.now }
     requires table { All (AreSmallCounts (length flows.old)) table.now }
-    requires pairs { ArePairs (length table.now) (P.elements pairs) }
+    requires pairs { ArePairsOf (length table.now) (P.elements pairs) }
     requires long { length flows.old ≡ length instance.now.rows }
     requires small { AreSmallFlows flows.old }
     requires untouched { (i : ℕ) → i < length flows.old

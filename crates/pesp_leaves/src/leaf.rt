@@ -8,10 +8,10 @@ ghost use Rattle.pesp_problem.specs.Timetables.{Pesp};
 ghost use Rattle.pesp_problem.specs.Sums as sums;
 ghost use Rattle.pesp_problem.specs.Arcs.{net_of};
 ghost use Rattle.pesp_problem.specs.Nodes as nodes;
-ghost use Rattle.pesp_nets.specs.Nets.{AreSmallCounts, AreNetCounts, AreZeros, AreNets};
+ghost use Rattle.pesp_problem.specs.Nets.{AreSmallCounts, AreNetCounts, AreZeros, AreNets};
 ghost use Rattle.pesp_leaves.specs.Offsets.{AreSlackRanges, IsSmallOffset};
-ghost use Rattle.pesp_leaves.specs.Flows.{ArePairs};
-ghost use Rattle.pesp_nets.specs.Ranges.{left_of};
+ghost use Rattle.pesp_leaves.specs.Flows.{ArePairsOf};
+ghost use Rattle.pesp_problem.specs.Ranges.{left_of};
 ghost use Rattle.pesp_leaves.specs.Ranges.{node_of, AreRanges, idle_part};
 
 use crate::checker::Checker;
@@ -19,9 +19,8 @@ use crate::elements::Elements;
 use crate::flows::{add_flows, take_flows};
 use crate::offsets::{duration_sums, left_between, scaled};
 use crate::ranges::Ranges;
-use pesp_nets::NetCount;
 use pesp_problem::exact::{plus, times};
-use pesp_problem::{Instance, Pair};
+use pesp_problem::{Instance, NetCount, Pair};
 
 /// The least and the greatest offset that an offset range and slack ranges leave to a cycle.
 pub fn offsets_left(
@@ -78,7 +77,7 @@ pub fn offset_sum<P: Elements<Pair>>(
 ) -> Option<i128>
     requires ranges { AreRanges checker.now.instance.now ranges.now }
     requires cycles { length ranges.now.offsets.items ≡ length checker.now.table.now }
-    requires pairs { ArePairs (length checker.now.table.now) (P.elements pairs) }
+    requires pairs { ArePairsOf (length checker.now.table.now) (P.elements pairs) }
     ensures value { (walks : List (List SignedRow))
         → AreNets (length checker.now.instance.now.rows) walks checker.now.table.now
         → result ≡ option_map (λ z. pos checker.now.instance.now.period *ℤ z)
@@ -124,13 +123,14 @@ pub fn leaf_value<P: Elements<Pair>>(
 ) -> Option<i128>
     requires ranges { AreRanges checker.now.instance.now ranges.now }
     requires cycles { length ranges.now.offsets.items ≡ length checker.now.table.now }
-    requires pairs { ArePairs (length checker.now.table.now) (P.elements pairs) }
+    requires pairs { ArePairsOf (length checker.now.table.now) (P.elements pairs) }
     requires long { length working.old ≡ length checker.now.instance.now.rows }
     requires zeros { AreZeros working.old }
     ensures value { (walks : List (List SignedRow))
         → AreNets (length checker.now.instance.now.rows) walks checker.now.table.now
         → result ≡ nodes.leaf_value (net_of checker.now.instance.now) walks (node_of ranges.now)
         (P.elements pairs) weighted }
+    ensures size { IfSome result (λ v. unsigned_abs v ≤ 14 * 10 ^ 37) }
     ensures zeros { AreZeros working.new }
 {
     let offsets = offset_sum(checker, ranges, pairs)?;

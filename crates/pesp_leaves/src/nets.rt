@@ -4,11 +4,10 @@ ghost use Rattle.std.specs.Prelude.{◌≡◌, ℕ, List, ◌-◌, ◌+ℤ◌, �
 ghost use Rattle.pesp_problem.specs.declared.limits.TheConstants.{MOST_SIGNED_ROWS};
 ghost use Rattle.pesp_problem.specs.declared.row.SignedRow.{SignedRow};
 ghost use Rattle.pesp_problem.specs.Walks.{Names, sign};
-ghost use Rattle.pesp_nets.specs.Nets.{AreZeros, AreNetCounts};
+ghost use Rattle.pesp_problem.specs.Nets.{AreZeros, AreNetCounts};
 ghost use Rattle.pesp_leaves.specs.Nets.{AreCounts, ArePlaces, IsEntered};
 
-use pesp_nets::{NetCount, Nets};
-use pesp_problem::SignedRow;
+use pesp_problem::{NetCount, Nets, SignedRow};
 use std::alloc::{AllocError, Global};
 
 /// Working numbers, all 0.

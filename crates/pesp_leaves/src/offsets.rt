@@ -7,14 +7,13 @@ ghost use Rattle.pesp_problem.specs.declared.row.SignedRow.{SignedRow};
 ghost use Rattle.pesp_problem.specs.Sums as sums;
 ghost use Rattle.pesp_problem.specs.Arcs.{arcs_of, net_of};
 ghost use Rattle.pesp_problem.specs.Nodes.{least_sum, greatest_sum, odijk_range, range_or_none};
-ghost use Rattle.pesp_nets.specs.Nets.{AreSmallCounts, AreNetCounts};
-ghost use Rattle.pesp_nets.specs.Ranges.{least_term, greatest_term};
+ghost use Rattle.pesp_problem.specs.Nets.{AreSmallCounts, AreNetCounts};
+ghost use Rattle.pesp_problem.specs.Ranges.{least_term, greatest_term};
 ghost use Rattle.pesp_leaves.specs.Offsets.{AreSlackRanges, IsSmallOffset};
 
 use crate::rows::arc_at;
-use pesp_nets::NetCount;
-use pesp_problem::Instance;
 use pesp_problem::exact::{ceil_div, floor_div, times};
+use pesp_problem::{Instance, NetCount};
 
 /// A factor times the low end of a range, or times the high end where the factor is negative.
 pub fn scaled(factor: i128, low: i128, high: i128) -> i128

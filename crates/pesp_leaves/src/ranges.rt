@@ -6,7 +6,7 @@ ghost use Rattle.pesp_problem.specs.declared.limits.TheConstants.{MOST_PERIOD, M
 ghost use Rattle.pesp_problem.specs.Arcs.{arcs_of, arc_at};
 ghost use Rattle.pesp_problem.specs.Limits.{KeepsLimits};
 ghost use Rattle.pesp_problem.specs.Nodes.{part};
-ghost use Rattle.pesp_nets.specs.Ranges.{cut_slack, cut_offset, IsCut};
+ghost use Rattle.pesp_problem.specs.Ranges.{cut_slack, cut_offset, IsCut};
 ghost use Rattle.pesp_leaves.specs.Ranges.{node_of, AreRanges};
 
 use crate::rows::arc_at;

@@ -10,7 +10,7 @@ use Rattle.pesp_problem.specs.Forests.{IsBridge}
 use Rattle.pesp_network.specs.declared.parts.Forest.{Forest}
 use Rattle.pesp_network.specs.Growing.{at}
 use Rattle.pesp_problem.specs.Arcs.{arc_at, tail_of, head_of, HasEnds}
-use Rattle.pesp_network.specs.Rooted.{Under, IsForest, IsTreeRow, AreReaches, IsReached}
+use Rattle.pesp_network.specs.Rooted.{Under, IsForest, IsTreeRow, AreReaches, IsReachedPlace}
 use Rattle.pesp_network.proofs.Climbing.{self_inside, ends_of}
 use Rattle.pesp_problem.proofs.Walks.{step_same, step_other, net_count-cons}
 use Rattle.pesp_problem.proofs.Ways.{WayOver, closed, is_walk}
@@ -149,7 +149,7 @@ tells_bridge n arcs g low high e k f o b q kp a c =
     ])
 
 reached_outside : (n : ℕ) (arcs : List Arc) (g : Forest) (e k v : ℕ) → IsForest n arcs g → 0 < at g.by.items e
-    → at g.by.items e ≡ k → IsReached arcs g e v → ((at g.place.items e ≤ v) × (v ≤ at g.last.items e) → ⊥)
+    → at g.by.items e ≡ k → IsReachedPlace arcs g e v → ((at g.place.items e ≤ v) × (v ≤ at g.last.items e) → ⊥)
     → IsBridge arcs k → ⊥
 reached_outside n arcs g e k v f b q (inl h) out bridge = let i = h.1 in let p = h.2 in out (omega arith, omega arith)
 reached_outside n arcs g e k v f b q (inr h) out bridge =
@@ -213,7 +213,7 @@ inside_trans n arcs g f p x sp sx i (suc k) z h sz j =
 
 -- what an event reaches, the event above it reaches
 pub reached_up : (n : ℕ) (arcs : List Arc) (g : Forest) (x v : ℕ) → IsForest n arcs g → 0 < at g.by.items x
-    → IsReached arcs g x v → IsReached arcs g (at g.up.items x) v
+    → IsReachedPlace arcs g x v → IsReachedPlace arcs g (at g.up.items x) v
 reached_up n arcs g x v f b h =
     let sx = seen_joined n arcs g x f b in
     let p = at g.up.items x in

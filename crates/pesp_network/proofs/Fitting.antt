@@ -19,7 +19,7 @@ use Rattle.pesp_network.specs.Networks.{HasOpenRow, arcs_of_network, arc_of_net,
 use Rattle.pesp_network.specs.Growing.{at}
 use Rattle.pesp_network.specs.Rooted.{IsForest, IsTreeRow, AreTreeRows}
 use Rattle.pesp_network.specs.Ways.{walk_of}
-use Rattle.pesp_network.specs.Times.{IsWhole, duration, duration_of, FitsForest, OpensRow, AreSlacks}
+use Rattle.pesp_network.specs.Times.{IsMultiple, duration, duration_of, FitsForest, OpensRow, AreSlacks}
 use Rattle.pesp_network.proofs.Places.{count, arc_is, lower_at, tail_at}
 use Rattle.pesp_problem.proofs.Ways.{leads_to, closed}
 use Rattle.pesp_problem.proofs.Congruences.{same_rem}
@@ -124,7 +124,7 @@ along_is arcs slacks (s ∷ way) = let a = signed_is s.plus (duration arcs slack
 
 -- a whole offset along a walk
 whole_is : (n : Net) (slacks : List ℕ) (walk : List SignedRow) → IsWalk n.arcs walk
-    → HasWholeOffset n (slice_index slacks) walk → IsWhole n.period (duration_of (duration n.arcs slacks) walk)
+    → HasWholeOffset n (slice_index slacks) walk → IsMultiple n.period (duration_of (duration n.arcs slacks) walk)
 whole_is n slacks walk w h = (
   h.0,
   sym (along_is n.arcs slacks walk)
@@ -143,7 +143,7 @@ closes n p arcs g slacks times k walk f o y w rest e tree offset =
     let whole = whole_is (record { period = p; arcs = arcs }) slacks walk w offset in
     let P : List SignedRow → Type 0 = λ x. Leads arcs c.event x c.event in
     let l = subst P e c.closes in
-    let Q : List SignedRow → Type 0 = λ x. IsWhole p (duration_of (duration arcs slacks) x) in
+    let Q : List SignedRow → Type 0 = λ x. IsMultiple p (duration_of (duration arcs slacks) x) in
     closes_row p arcs (duration arcs slacks) (at times) k (slice_index slacks (k - 1)) (arc_at arcs (k - 1)).lower rest y refl
     (leads_to arcs (head_of arcs k) c.event (tail_of arcs k) rest (sym l.0) l.1)
     (All-weaker (λ (x : SignedRow). IsTreeRow g x.row) (FitsRow p arcs (duration arcs slacks) (at times))

@@ -16,7 +16,7 @@ use Rattle.pesp_network.specs.declared.refusal.NetRefusal.{NetRefusal}
 use Rattle.pesp_network.specs.declared.refusal.NetRefusal.TheVariants.{Memory, TableTooLarge, BadRow}
 use Rattle.pesp_network.specs.declared.parts.Forest.{Forest}
 use Rattle.pesp_network.specs.declared.parts.Reaches.{Reaches}
-use Rattle.pesp_network.specs.Held.{IsHeld}
+use Rattle.pesp_network.specs.Held.{NetworkIsHeld}
 use Rattle.pesp_network.specs.Networks.{NetworkValue, arc_of_net, arcs_of_network, net_of_network, net_row_at, no_net_row, RowKeepsNetLimits, AreGood, KeepsNetLimits, IsTableRefusal, signed_rows}
 use Rattle.pesp_network.specs.Growing.{at}
 use Rattle.pesp_network.specs.Rooted.{IsForest, IsTreeRow, AreTreeRows, AreReaches}
@@ -101,7 +101,7 @@ pub record IsWayHeld (n : NetworkValue) (from to : ℕ) (way : List SignedRow) :
   pub end_once : All (λ s. start (arcs_of_network n.rows) s ≢ to) way
 
 pub way_held : (v n : NetworkValue) (held : List Arc) (g : Forest) (r : Reaches) (view : List NetRow) (from to : ℕ)
-    (way : List SignedRow) → v ≡ n → IsHeld v held g r → view ≡ v.rows → from < n.events → to < n.events
+    (way : List SignedRow) → v ≡ n → NetworkIsHeld v held g r → view ≡ v.rows → from < n.events → to < n.events
     → IsForestWay (arcs_of_network view) g from to way → IsWayHeld n from to way
 way_held v n held g r view from to way same k e bx bt w =
     let arcs = arcs_of_network v.rows in let f = k.forest in
@@ -121,7 +121,7 @@ way_held v n held g r view from to way same k e bx bt w =
 
 -- events of two trees aren't joined
 pub apart_held : (v n : NetworkValue) (held : List Arc) (g : Forest) (r : Reaches) (from to : ℕ) → v ≡ n
-    → IsHeld v held g r → from < n.events → at g.root.items from ≢ at g.root.items to
+    → NetworkIsHeld v held g r → from < n.events → at g.root.items from ≢ at g.root.items to
     → AreJoined (arcs_of_network n.rows) from to → ⊥
 apart_held v n held g r from to same k b ne h =
     let events = ap (λ (x : NetworkValue). x.events) same in

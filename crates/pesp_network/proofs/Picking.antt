@@ -15,7 +15,7 @@ use Rattle.pesp_network.specs.Networks.{arcs_of_network, arc_of_net, net_row_at,
 use Rattle.pesp_problem.specs.ArcLimits.{HaveEnds}
 use Rattle.pesp_network.specs.Growing.{Fns, Grown, at}
 use Rattle.pesp_network.specs.Floods.{OPEN_END, fns_of, GrownOver, AllClosed}
-use Rattle.pesp_network.specs.Rooted.{IsRooted, IsGrown, IsForest, IsMetBy, number_of}
+use Rattle.pesp_network.specs.Rooted.{IsRooted, IsGrown, IsForest, IsMetBy, row_number_of}
 use Rattle.pesp_network.proofs.Climbing.{ends_of}
 use Rattle.pesp_network.proofs.Places.{count, arc_is, tail_more, head_more}
 
@@ -23,26 +23,26 @@ use Rattle.pesp_network.proofs.Places.{count, arc_is, tail_more, head_more}
 abbrev pub picked : List NetRow → List ℕ → List NetRow
 picked rows numbers = map (λ k. net_row_at rows (k - 1)) numbers
 
-pub number_some : (numbers : List ℕ) (k : ℕ) → 0 < k → number_of numbers k ≡ slice_index numbers (k - 1)
+pub number_some : (numbers : List ℕ) (k : ℕ) → 0 < k → row_number_of numbers k ≡ slice_index numbers (k - 1)
 number_some numbers k h = grind (arith, nat_tests)
 
-pub number_none : (numbers : List ℕ) (k : ℕ) → k ≡ 0 → number_of numbers k ≡ 0
+pub number_none : (numbers : List ℕ) (k : ℕ) → k ≡ 0 → row_number_of numbers k ≡ 0
 number_none numbers k h = grind (arith, nat_tests)
 
 -- a picked row is the row of its number
 pub picked_arc : (rows : List NetRow) (numbers : List ℕ) (k : ℕ) → All (Names (length rows)) numbers → 0 < k → k ≤ length numbers
-    → (Names (length rows) (number_of numbers k))
-    × (arc_at (arcs_of_network rows) (number_of numbers k - 1)
+    → (Names (length rows) (row_number_of numbers k))
+    × (arc_at (arcs_of_network rows) (row_number_of numbers k - 1)
     ≡ arc_at (arcs_of_network (picked rows numbers)) (k - 1))
 picked_arc rows numbers k names some most =
     let h : k - 1 < length numbers = omega arith in
     let n = number_some numbers k some in
     let a = names (k - 1) 0 h in
     let P : ℕ → Type 0 = λ j. Names (length rows) j in
-    let b : Names (length rows) (number_of numbers k) = rw n a in
+    let b : Names (length rows) (row_number_of numbers k) = rw n a in
     let lp : k - 1 < length (picked rows numbers) = let e = length-map numbers (λ j. net_row_at rows (j - 1)) in omega arith in (
       b,
-      arc_is rows (number_of numbers k - 1) no_net_row (omega arith) ∙ ap (λ j. arc_of_net (net_row_at rows (j - 1))) n
+      arc_is rows (row_number_of numbers k - 1) no_net_row (omega arith) ∙ ap (λ j. arc_of_net (net_row_at rows (j - 1))) n
           ∙ ap arc_of_net (sym (get_or-map (λ j. net_row_at rows (j - 1)) numbers (k - 1) 0 no_net_row h))
           ∙ sym (arc_is (picked rows numbers) (k - 1) no_net_row lp),
     )
@@ -108,13 +108,13 @@ at_map h xs x z = elim (cases_lt x (length xs)) [
 ]
 
 pub renamed : (rows : List NetRow) (numbers bys : List ℕ) (f : Forest) → All (Names (length rows)) numbers
-    → ((x : ℕ) → at bys x ≤ length numbers) → f.by.items ≡ map (number_of numbers) bys
+    → ((x : ℕ) → at bys x ≤ length numbers) → f.by.items ≡ map (row_number_of numbers) bys
     → Renamed (length (arcs_of_network rows)) (tail_of (arcs_of_network (picked rows numbers)))
     (head_of (arcs_of_network (picked rows numbers))) (tail_of (arcs_of_network rows))
     (head_of (arcs_of_network rows)) (at bys) f
 renamed rows numbers bys f names few e =
-    let is : (x : ℕ) → at f.by.items x ≡ number_of numbers (at bys x) = λ x. ap (λ xs. at xs x) e
-    ∙ at_map (number_of numbers) bys x (number_none numbers 0 refl) in
+    let is : (x : ℕ) → at f.by.items x ≡ row_number_of numbers (at bys x) = λ x. ap (λ xs. at xs x) e
+    ∙ at_map (row_number_of numbers) bys x (number_none numbers 0 refl) in
     record {
       none = λ x z. is x ∙ number_none numbers (at bys x) z;
       some = λ x s.
@@ -134,7 +134,7 @@ picked_ends n rows numbers names ends k h =
     let c = count (picked rows numbers) in let e = length-map numbers (λ j. net_row_at rows (j - 1)) in let d = count rows in
     let a = picked_arc rows numbers (k + 1) names (omega arith) (omega arith) in
     let a0 = a.0 in
-    let w = ends (number_of numbers (k + 1) - 1) (omega arith) in
+    let w = ends (row_number_of numbers (k + 1) - 1) (omega arith) in
     let z : k + 1 - 1 ≡ k = omega arith in
     let q = a.1 ∙ ap (arc_at (arcs_of_network (picked rows numbers))) z in
     let x = ap (λ (r : Arc). r.tail) q in let y = ap (λ (r : Arc). r.head) q in (omega arith, omega arith)
@@ -155,7 +155,7 @@ picked_met n rows numbers g i names ends grown closed seen h =
     let m = grown.tail_met (i + 1) (omega arith) (omega arith) (omega arith) in
     let a = picked_arc rows numbers (i + 1) names (omega arith) (omega arith) in
     let z : i + 1 - 1 ≡ i = omega arith in
-    let q : number_of numbers (i + 1) ≡ slice_index numbers i = number_some numbers (i + 1) (omega arith) ∙ ap (slice_index numbers) z in
+    let q : row_number_of numbers (i + 1) ≡ slice_index numbers i = number_some numbers (i + 1) (omega arith) ∙ ap (slice_index numbers) z in
     let x = ap (tail_of (arcs_of_network rows)) (sym q) ∙ ap (λ (r : Arc). r.tail) a.1 in
     let y = ap (head_of (arcs_of_network rows)) (sym q) ∙ ap (λ (r : Arc). r.head) a.1 in
     ap (at g.root.items) x ∙ m.same ∙ sym (ap (at g.root.items) y)
@@ -193,7 +193,7 @@ pub regrown : (n : ℕ) (rows : List NetRow) (numbers : List ℕ) (bys : List �
     (fns_with f (at bys) l))
     (closed : (x : ℕ) → 0 < at f.place.items x → at f.last.items x < OPEN_END)
     (seen : (x : ℕ) → x < n → 0 < at f.place.items x) (events : vec_len f.up ≡ n)
-    (e : f.by.items ≡ map (number_of numbers) bys) → IsGrown n (arcs_of_network rows) f
+    (e : f.by.items ≡ map (row_number_of numbers) bys) → IsGrown n (arcs_of_network rows) f
 regrown n rows numbers bys f l names ends few grown closed seen events e =
     let arcs = arcs_of_network (picked rows numbers) in
     let less : (x : ℕ) → at bys x ≤ length numbers = λ x. let b = grown.by_row x in let c = picked_count rows numbers in omega arith in

@@ -7,22 +7,22 @@ use Rattle.pesp_problem.specs.Walks.{Names}
 use Rattle.pesp_network.specs.declared.parts.Forest.{Forest}
 use Rattle.pesp_network.specs.Growing.{at}
 use Rattle.pesp_problem.specs.Arcs.{arc_at, tail_of, head_of, HasEnds}
-use Rattle.pesp_network.specs.Rooted.{IsForest, AreReaches, IsReached, TakesRows, Takes, TakesUp}
+use Rattle.pesp_network.specs.Rooted.{IsForest, AreReaches, IsReachedPlace, ReachesRows, TakesPlaces, TakesUp}
 use Rattle.pesp_network.proofs.Climbing.{self_inside}
 use Rattle.pesp_network.proofs.Bridging.{reached_up, end_seen}
 
 pub record TakenRow (g : Forest) (k x y : ℕ) (low high low2 high2 : List ℕ) : Type 0 where
   pub kept : at g.by.items x ≡ k → (low2 ≡ low) × (high2 ≡ high)
-  pub takes : at g.by.items x ≢ k → Takes low high low2 high2 x (at g.place.items y) (at g.place.items y)
+  pub takes : at g.by.items x ≢ k → TakesPlaces low high low2 high2 x (at g.place.items y) (at g.place.items y)
 
-reached_same : (arcs : List Arc) (g : Forest) (x v w : ℕ) → w ≡ v → IsReached arcs g x v → IsReached arcs g x w
-reached_same arcs g x v w e h = let P : ℕ → Type 0 = λ z. IsReached arcs g x z in subst P (sym e) h
+reached_same : (arcs : List Arc) (g : Forest) (x v w : ℕ) → w ≡ v → IsReachedPlace arcs g x v → IsReachedPlace arcs g x w
+reached_same arcs g x v w e h = let P : ℕ → Type 0 = λ z. IsReachedPlace arcs g x z in subst P (sym e) h
 
-reached_at : (arcs : List Arc) (g : Forest) (x z v : ℕ) → z ≡ x → IsReached arcs g x v → IsReached arcs g z v
-reached_at arcs g x z v e h = let P : ℕ → Type 0 = λ u. IsReached arcs g u v in subst P (sym e) h
+reached_at : (arcs : List Arc) (g : Forest) (x z v : ℕ) → z ≡ x → IsReachedPlace arcs g x v → IsReachedPlace arcs g z v
+reached_at arcs g x z v e h = let P : ℕ → Type 0 = λ u. IsReachedPlace arcs g u v in subst P (sym e) h
 
 by_row_end : (n : ℕ) (arcs : List Arc) (g : Forest) (k x y : ℕ) → IsForest n arcs g → Names (length arcs) k
-    → HasEnds (arc_at arcs (k - 1)) x y → at g.by.items x ≢ k → IsReached arcs g x (at g.place.items y)
+    → HasEnds (arc_at arcs (k - 1)) x y → at g.by.items x ≢ k → IsReachedPlace arcs g x (at g.place.items y)
 by_row_end n arcs g k x y f r ends ne = inr (x, k, y, self_inside n arcs g x f (end_seen n arcs g k x y f r ends).0, r, ends, ne, refl)
 
 taken_mono : (g : Forest) (k x y : ℕ) (low high low2 high2 : List ℕ) → TakenRow g k x y low high low2 high2
@@ -33,9 +33,9 @@ taken_mono g k x y low high low2 high2 t z = elim (cases_eq (at g.by.items x) k)
 ]
 
 taken_one : (n : ℕ) (arcs : List Arc) (g : Forest) (i k x y : ℕ) (low high low2 high2 : List ℕ) → IsForest n arcs g
-    → TakesRows n arcs g i low high → Names (length arcs) k → HasEnds (arc_at arcs (k - 1)) x y
+    → ReachesRows n arcs g i low high → Names (length arcs) k → HasEnds (arc_at arcs (k - 1)) x y
     → TakenRow g k x y low high low2 high2
-    → TakesRows n arcs g i low2 high2
+    → ReachesRows n arcs g i low2 high2
 taken_one n arcs g i k x y low high low2 high2 f o r ends t = record {
   row_low = λ j u v ij le e ne. let a = o.row_low j u v ij le e ne in let m = taken_mono g k x y low high low2 high2 t u in omega arith;
   row_high = λ j u v ij le e ne. let a = o.row_high j u v ij le e ne in let m = taken_mono g k x y low high low2 high2 t u in omega arith;
@@ -59,9 +59,9 @@ taken_one n arcs g i k x y low high low2 high2 f o r ends t = record {
 
 -- one row more, at both of its ends
 pub taken_more : (n : ℕ) (arcs : List Arc) (g : Forest) (i x y : ℕ) (low high low2 high2 low3 high3 : List ℕ)
-    → IsForest n arcs g → TakesRows n arcs g i low high → i < length arcs → x ≡ tail_of arcs (i + 1)
+    → IsForest n arcs g → ReachesRows n arcs g i low high → i < length arcs → x ≡ tail_of arcs (i + 1)
     → y ≡ head_of arcs (i + 1)
-    → TakenRow g (i + 1) x y low high low2 high2 → TakenRow g (i + 1) y x low2 high2 low3 high3 → TakesRows n arcs g (i + 1) low3 high3
+    → TakenRow g (i + 1) x y low high low2 high2 → TakenRow g (i + 1) y x low2 high2 low3 high3 → ReachesRows n arcs g (i + 1) low3 high3
 taken_more n arcs g i x y low high low2 high2 low3 high3 f o lt ex ey t u =
     let k = i + 1 in
     let r : Names (length arcs) k = (omega arith, omega arith) in
@@ -102,7 +102,7 @@ taken_more n arcs g i x y low high low2 high2 low3 high3 f o lt ex ey t u =
 
 -- each event reaches its own place
 pub taken_none : (n : ℕ) (arcs : List Arc) (g : Forest) (low high : List ℕ) → IsForest n arcs g
-    → low ≡ g.place.items → high ≡ g.place.items → TakesRows n arcs g 0 low high
+    → low ≡ g.place.items → high ≡ g.place.items → ReachesRows n arcs g 0 low high
 taken_none n arcs g low high f a b = record {
   row_low = λ j x y r le e ne. absurd (let p = r.0 in omega arith);
   row_high = λ j x y r le e ne. absurd (let p = r.0 in omega arith);
@@ -112,7 +112,7 @@ taken_none n arcs g low high f a b = record {
 
 -- no event of a later place than the last one
 pub up_none : (n : ℕ) (arcs : List Arc) (g : Forest) (low high : List ℕ) → IsForest n arcs g
-    → TakesRows n arcs g (length arcs) low high → TakesUp n arcs g (vec_len g.order) low high
+    → ReachesRows n arcs g (length arcs) low high → TakesUp n arcs g (vec_len g.order) low high
 up_none n arcs g low high f o = record {
   rows_in = o;
   up_low = λ x b h. absurd (let p = f.grown.places x in omega arith);
@@ -139,7 +139,7 @@ up_root n arcs g i e low high f o lt q z =
 
 pub up_more : (n : ℕ) (arcs : List Arc) (g : Forest) (i e : ℕ) (low high low2 high2 : List ℕ) → IsForest n arcs g
     → TakesUp n arcs g (i + 1) low high → i < vec_len g.order → e ≡ at g.order.items i → 0 < at g.by.items e
-    → Takes low high low2 high2 (at g.up.items e) (at low e) (at high e) → TakesUp n arcs g i low2 high2
+    → TakesPlaces low high low2 high2 (at g.up.items e) (at low e) (at high e) → TakesUp n arcs g i low2 high2
 up_more n arcs g i e low high low2 high2 f o lt q b t =
     let p = at g.up.items e in
     let place : at g.place.items e ≡ i + 1 = ap (at g.place.items) q ∙ f.grown.order_at i lt in
@@ -194,8 +194,8 @@ all_up n arcs g low high f o = record {
 }
 
 pub taken_all : (n : ℕ) (arcs : List Arc) (g : Forest) (i m : ℕ) (low high : List ℕ) → m ≡ i
-    → TakesRows n arcs g i low high → TakesRows n arcs g m low high
-taken_all n arcs g i m low high e o = let P : ℕ → Type 0 = λ k. TakesRows n arcs g k low high in subst P (sym e) o
+    → ReachesRows n arcs g i low high → ReachesRows n arcs g m low high
+taken_all n arcs g i m low high e o = let P : ℕ → Type 0 = λ k. ReachesRows n arcs g k low high in subst P (sym e) o
 
 up_same : (n : ℕ) (arcs : List Arc) (g : Forest) (i : ℕ) (low high low2 high2 : List ℕ) → low2 ≡ low → high2 ≡ high
     → TakesUp n arcs g i low high → TakesUp n arcs g i low2 high2
@@ -215,7 +215,7 @@ pub up_step : (n : ℕ) (arcs : List Arc) (g : Forest) (count e : ℕ) (low high
     → IsForest n arcs g → TakesUp n arcs g count low high → 0 < count → count ≤ vec_len g.order
     → e ≡ at g.order.items (count - 1)
     → (at g.by.items e ≡ 0 → (low2 ≡ low) × (high2 ≡ high))
-    → (0 < at g.by.items e → Takes low high low2 high2 (at g.up.items e) (at low e) (at high e))
+    → (0 < at g.by.items e → TakesPlaces low high low2 high2 (at g.up.items e) (at low e) (at high e))
     → TakesUp n arcs g (count - 1) low2 high2
 up_step n arcs g count e low high low2 high2 f o a b q kept takes =
     let o2 = up_at n arcs g count (count - 1 + 1) low high (omega arith) o in

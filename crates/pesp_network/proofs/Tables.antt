@@ -17,7 +17,7 @@ use Rattle.pesp_network.specs.Networks.{arcs_of_network, signed_rows, no_net_row
 use Rattle.pesp_network.specs.Growing.{at}
 use Rattle.pesp_problem.specs.Arcs.{tail_of, head_of}
 use Rattle.pesp_network.specs.Rooted.{IsForest, IsTreeRow, AreTreeRows}
-use Rattle.pesp_network.specs.Ways.{is_kept, outside, walk_of, walks_of}
+use Rattle.pesp_network.specs.Ways.{joins_upwards, outside, walk_of, walks_of}
 use Rattle.pesp_network.proofs.Places.{tail_more, head_more}
 use Rattle.pesp_problem.proofs.Spanning.{roots_span}
 use Rattle.pesp_network.proofs.Spanning.{as_roots, are_roots, event_below}
@@ -25,13 +25,13 @@ use Rattle.pesp_network.proofs.Paths.{walk_facts, walk_simple}
 
 -- ---- rows of the forest and rows outside it
 
-pub kept_true : (arcs : List Arc) (g : Forest) (k : ℕ) → 0 < k → is_kept arcs g k ≡ true → IsTreeRow g k
+pub kept_true : (arcs : List Arc) (g : Forest) (k : ℕ) → 0 < k → joins_upwards arcs g k ≡ true → IsTreeRow g k
 kept_true arcs g k s e = elim (or_cases (at g.by.items (tail_of arcs k) == k) (at g.by.items (head_of arcs k) == k) e) [
   | inl w ↦ let q = eqb-true _ _ w in (tail_of arcs k, omega arith, q)
   | inr w ↦ let q = eqb-true _ _ w in (head_of arcs k, omega arith, q)
 ]
 
-pub kept_false : (n : ℕ) (arcs : List Arc) (g : Forest) (k : ℕ) → IsForest n arcs g → is_kept arcs g k ≡ false → IsTreeRow g k → ⊥
+pub kept_false : (n : ℕ) (arcs : List Arc) (g : Forest) (k : ℕ) → IsForest n arcs g → joins_upwards arcs g k ≡ false → IsTreeRow g k → ⊥
 kept_false n arcs g k f e t =
     let w = or_parts (at g.by.items (tail_of arcs k) == k) (at g.by.items (head_of arcs k) == k) e in
     let x = t.0 in
@@ -56,7 +56,7 @@ outside_all n arcs g f zero = All-nil (IsOutside g zero)
 outside_all n arcs g f (suc i) =
     let before = All-weaker (IsOutside g i) (IsOutside g (suc i)) (later g i) (outside arcs g i) (outside_all n arcs g f i) in
     let P : Bool → Type 0 = λ b. All (IsOutside g (suc i)) (if b then outside arcs g i else outside arcs g i ++ suc i ∷ []) in
-    elim (cases_Bool (is_kept arcs g (suc i))) [
+    elim (cases_Bool (joins_upwards arcs g (suc i))) [
       | inl e ↦ subst P (sym e) before
       | inr e ↦ subst P (sym e) (All-push (IsOutside g (suc i)) (outside arcs g i) (suc i) before
           (record { some = omega arith; most = omega arith; free = kept_false n arcs g (suc i) f e }))
@@ -82,7 +82,7 @@ outside_rising n arcs g f zero = λ k h. absurd (omega arith)
 outside_rising n arcs g f (suc i) =
     let before = outside_rising n arcs g f i in
     let P : Bool → Type 0 = λ b. IsStrictlyIncreasing (if b then outside arcs g i else outside arcs g i ++ suc i ∷ []) in
-    elim (cases_Bool (is_kept arcs g (suc i))) [
+    elim (cases_Bool (joins_upwards arcs g (suc i))) [
       | inl e ↦ subst P (sym e) before
       | inr e ↦ subst P (sym e) (rising_push (outside arcs g i) (suc i) before
           (All-weaker (IsOutside g i) (λ x. x < suc i) (λ x o. let m = o.most in omega arith) (outside arcs g i)
@@ -93,7 +93,7 @@ pub outside_has : (arcs : List Arc) (g : Forest) (i k : ℕ) → 1 ≤ k → k �
 outside_has arcs g zero k s m free = absurd (omega arith)
 outside_has arcs g (suc i) k s m free =
     let P : Bool → Type 0 = λ b. Contains (if b then outside arcs g i else outside arcs g i ++ suc i ∷ []) k in
-    elim (cases_Bool (is_kept arcs g (suc i))) [
+    elim (cases_Bool (joins_upwards arcs g (suc i))) [
       | inl e ↦ subst P (sym e) (elim (cases_lt k (suc i)) [
         | inl w ↦ outside_has arcs g i k s (omega arith) free
         | inr w ↦ let q : suc i ≡ k = omega arith in let Q : ℕ → Type 0 = λ j. IsTreeRow g j in
@@ -184,33 +184,33 @@ too_many n arcs g rows f t h = record {
 
 -- ---- one row more
 
-kept_same : (arcs : List Arc) (g : Forest) (i : ℕ) → is_kept arcs g (suc i) ≡ true → walks_of arcs g (suc i) ≡ walks_of arcs g i
-kept_same arcs g i e = ap (map (walk_of arcs g)) (cond-true (is_kept arcs g (suc i)) (outside arcs g i) (outside arcs g i ++ suc i ∷ []) e)
+kept_same : (arcs : List Arc) (g : Forest) (i : ℕ) → joins_upwards arcs g (suc i) ≡ true → walks_of arcs g (suc i) ≡ walks_of arcs g i
+kept_same arcs g i e = ap (map (walk_of arcs g)) (cond-true (joins_upwards arcs g (suc i)) (outside arcs g i) (outside arcs g i ++ suc i ∷ []) e)
 
-free_more : (arcs : List Arc) (g : Forest) (i : ℕ) → is_kept arcs g (suc i) ≡ false
+free_more : (arcs : List Arc) (g : Forest) (i : ℕ) → joins_upwards arcs g (suc i) ≡ false
     → walks_of arcs g (suc i) ≡ walks_of arcs g i ++ walk_of arcs g (suc i) ∷ []
 free_more arcs g i e = ap (map (walk_of arcs g))
-    (cond-false (is_kept arcs g (suc i)) (outside arcs g i) (outside arcs g i ++ suc i ∷ []) e)
+    (cond-false (joins_upwards arcs g (suc i)) (outside arcs g i) (outside arcs g i ++ suc i ∷ []) e)
     ∙ map-append (walk_of arcs g) (outside arcs g i) (suc i ∷ [])
 
-pub kept_next : (arcs : List Arc) (g : Forest) (i : ℕ) → is_kept arcs g (i + 1) ≡ true → walks_of arcs g (i + 1) ≡ walks_of arcs g i
-kept_next arcs g i e = let q = add-one i in ap (walks_of arcs g) q ∙ kept_same arcs g i (sym (ap (is_kept arcs g) q) ∙ e)
+pub kept_next : (arcs : List Arc) (g : Forest) (i : ℕ) → joins_upwards arcs g (i + 1) ≡ true → walks_of arcs g (i + 1) ≡ walks_of arcs g i
+kept_next arcs g i e = let q = add-one i in ap (walks_of arcs g) q ∙ kept_same arcs g i (sym (ap (joins_upwards arcs g) q) ∙ e)
 
-pub free_next : (arcs : List Arc) (g : Forest) (i : ℕ) → is_kept arcs g (i + 1) ≡ false
+pub free_next : (arcs : List Arc) (g : Forest) (i : ℕ) → joins_upwards arcs g (i + 1) ≡ false
     → walks_of arcs g (i + 1) ≡ walks_of arcs g i ++ walk_of arcs g (i + 1) ∷ []
 free_next arcs g i e = let q = add-one i in ap (walks_of arcs g) q
-    ∙ free_more arcs g i (sym (ap (is_kept arcs g) q) ∙ e)
+    ∙ free_more arcs g i (sym (ap (joins_upwards arcs g) q) ∙ e)
     ∙ ap (λ j. walks_of arcs g i ++ walk_of arcs g j ∷ []) (sym q)
 
 one_more : (table : List (List SignedRow)) (walk : List SignedRow) → signed_rows (table ++ walk ∷ []) ≡ signed_rows table + length walk
 one_more table walk = let e = sum_by-append length table (walk ∷ []) in omega (arith, e)
 
-pub total_more : (arcs : List Arc) (g : Forest) (i : ℕ) → is_kept arcs g (i + 1) ≡ false
+pub total_more : (arcs : List Arc) (g : Forest) (i : ℕ) → joins_upwards arcs g (i + 1) ≡ false
     → signed_rows (walks_of arcs g (i + 1)) ≡ signed_rows (walks_of arcs g i) + length (walk_of arcs g (i + 1))
 total_more arcs g i e = ap signed_rows (free_next arcs g i e) ∙ one_more (walks_of arcs g i) (walk_of arcs g (i + 1))
 
 total_rises : (arcs : List Arc) (g : Forest) (i : ℕ) → signed_rows (walks_of arcs g i) ≤ signed_rows (walks_of arcs g (suc i))
-total_rises arcs g i = elim (cases_Bool (is_kept arcs g (suc i))) [
+total_rises arcs g i = elim (cases_Bool (joins_upwards arcs g (suc i))) [
   | inl e ↦ let q = ap signed_rows (kept_same arcs g i e) in omega arith
   | inr e ↦ let q = ap signed_rows (free_more arcs g i e) ∙ one_more (walks_of arcs g i) (walk_of arcs g (suc i)) in omega arith
 ]
@@ -226,7 +226,7 @@ total_at_most arcs g i m h = rises_to arcs g i (m - i) m (omega arith)
 -- the test of a row by its ends
 pub kept_is : (rows : List NetRow) (g : Forest) (i : ℕ) → i < length rows
     → ((at g.by.items (get_or rows i no_net_row).tail == i + 1)
-    || (at g.by.items (get_or rows i no_net_row).head == i + 1)) ≡ is_kept (arcs_of_network rows) g (i + 1)
+    || (at g.by.items (get_or rows i no_net_row).head == i + 1)) ≡ joins_upwards (arcs_of_network rows) g (i + 1)
 kept_is rows g i h = ap (λ x. (at g.by.items x == i + 1)
     || (at g.by.items (get_or rows i no_net_row).head == i + 1)) (tail_more rows i h)
     ∙ ap (λ x. (at g.by.items (tail_of (arcs_of_network rows) (i + 1)) == i + 1) || (at g.by.items x == i + 1))

@@ -9,13 +9,13 @@ use Rattle.pesp_problem.specs.Walks.{Leads, start, finish}
 use Rattle.pesp_problem.specs.Arcs.{tail_of, head_of}
 use Rattle.pesp_problem.specs.Congruences.{IsSame}
 use Rattle.pesp_problem.proofs.Congruences.{same_trans, same_add, same_neg, same_is, rem_same, same_rem}
-use Rattle.pesp_network.specs.Times.{duration_of, IsWhole}
+use Rattle.pesp_network.specs.Times.{duration_of, IsMultiple}
 
 whole_from : (p : ℕ) (a z : ℤ) → a ≡ pos p *ℤ z → IsSame p a (pos 0)
 whole_from p a (pos z) e = record { more = 0; less = z; even = omega (arith, ints) }
 whole_from p a (negsuc z) e = record { more = suc z; less = 0; even = omega (arith, ints) }
 
-pub whole_same : (p : ℕ) (a : ℤ) → IsWhole p a → IsSame p a (pos 0)
+pub whole_same : (p : ℕ) (a : ℤ) → IsMultiple p a → IsSame p a (pos 0)
 whole_same p a w = whole_from p a w.0 w.1
 
 -- the time from the start of a signed row to its end
@@ -48,7 +48,7 @@ goes_along p g d t a b (s ∷ way) h k =
 -- a row whose walk has a whole offset has its slack
 pub closes_row : (p : ℕ) (g : List Arc) (d : ℕ → ℤ) (t : ℕ → ℕ) (k y : ℕ) (lower : ℤ) (rest : List SignedRow) → y < p → d k ≡ lower +ℤ pos y
     → Leads g (head_of g k) rest (tail_of g k) → All (FitsRow p g d t) rest
-    → IsWhole p (duration_of d (record { row = k; plus = true } ∷ rest))
+    → IsMultiple p (duration_of d (record { row = k; plus = true } ∷ rest))
     → int_rem_euclid ((pos (t (head_of g k)) -ℤ pos (t (tail_of g k))) -ℤ lower) (pos p) ≡ pos y
 closes_row p g d t k y lower rest h e leads fits whole =
     let w = whole_same p _ whole in

@@ -7,7 +7,7 @@ use Rattle.pesp_network.specs.Networks.{NetworkValue, KeepsNetLimits, arcs_of_ne
 use Rattle.pesp_network.specs.Rooted.{IsForest, AreReaches, AreTreeRows}
 
 -- the limits, the rows without their origins, a spanning forest of them, the places that are reached in it, and its rows
-pub record IsHeld (n : NetworkValue) (arcs : List Arc) (f : Forest) (r : Reaches) : Type 0 where
+pub record NetworkIsHeld (n : NetworkValue) (arcs : List Arc) (f : Forest) (r : Reaches) : Type 0 where
   pub limits : KeepsNetLimits n
   pub rows : arcs ≡ arcs_of_network n.rows
   pub forest : IsForest n.events (arcs_of_network n.rows) f

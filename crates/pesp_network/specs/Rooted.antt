@@ -34,8 +34,8 @@ pub record IsRooted (n m : ℕ) (T H : ℕ → ℕ) (g : Forest) : Type 0 where
   pub lasts : (x : ℕ) → 0 < at g.place.items x → at g.place.items x ≤ at g.last.items x
 
 -- the number of the k-th of these rows, and 0 for 0
-abbrev pub number_of : List ℕ → ℕ → ℕ
-number_of numbers k = if k == 0 then 0 else slice_index numbers (k - 1)
+abbrev pub row_number_of : List ℕ → ℕ → ℕ
+row_number_of numbers k = if k == 0 then 0 else slice_index numbers (k - 1)
 
 -- every event is in a tree
 pub record IsGrown (n : ℕ) (arcs : List Arc) (g : Forest) : Type 0 where
@@ -71,8 +71,8 @@ pub record AreTreeRows (n : ℕ) (g : Forest) (rows : List ℕ) : Type 0 where
 -- ---- places that are reached
 
 -- v is the place of an event at or below x, or of one to which a row leads from there, other than the row to the event above
-abbrev pub IsReached : List Arc → Forest → ℕ → ℕ → Type 0
-IsReached arcs g x v = ((z : ℕ) × Under g x z × (v ≡ at g.place.items z))
+abbrev pub IsReachedPlace : List Arc → Forest → ℕ → ℕ → Type 0
+IsReachedPlace arcs g x v = ((z : ℕ) × Under g x z × (v ≡ at g.place.items z))
     ⊎ ((z : ℕ) × (j : ℕ) × (y : ℕ) × Under g x z × Names (length arcs) j × HasEnds (arc_at arcs (j - 1)) z y
     × (at g.by.items z ≡ j → ⊥) × (v ≡ at g.place.items y))
 
@@ -84,20 +84,20 @@ pub record AreReaches (n : ℕ) (arcs : List Arc) (g : Forest) (low high : List 
       → (at g.by.items x ≡ j → ⊥) → at g.place.items y ≤ at high x
   pub up_low : (x : ℕ) → 0 < at g.by.items x → at low (at g.up.items x) ≤ at low x
   pub up_high : (x : ℕ) → 0 < at g.by.items x → at high x ≤ at high (at g.up.items x)
-  pub low_reached : (x : ℕ) → x < n → IsReached arcs g x (at low x)
-  pub high_reached : (x : ℕ) → x < n → IsReached arcs g x (at high x)
+  pub low_reached : (x : ℕ) → x < n → IsReachedPlace arcs g x (at low x)
+  pub high_reached : (x : ℕ) → x < n → IsReachedPlace arcs g x (at high x)
 
 -- the first rows up to i are taken in
-pub record TakesRows (n : ℕ) (arcs : List Arc) (g : Forest) (i : ℕ) (low high : List ℕ) : Type 0 where
+pub record ReachesRows (n : ℕ) (arcs : List Arc) (g : Forest) (i : ℕ) (low high : List ℕ) : Type 0 where
   pub row_low : (j x y : ℕ) → Names (length arcs) j → j ≤ i → HasEnds (arc_at arcs (j - 1)) x y
       → (at g.by.items x ≡ j → ⊥) → at low x ≤ at g.place.items y
   pub row_high : (j x y : ℕ) → Names (length arcs) j → j ≤ i → HasEnds (arc_at arcs (j - 1)) x y
       → (at g.by.items x ≡ j → ⊥) → at g.place.items y ≤ at high x
-  pub low_reached : (x : ℕ) → x < n → IsReached arcs g x (at low x)
-  pub high_reached : (x : ℕ) → x < n → IsReached arcs g x (at high x)
+  pub low_reached : (x : ℕ) → x < n → IsReachedPlace arcs g x (at low x)
+  pub high_reached : (x : ℕ) → x < n → IsReachedPlace arcs g x (at high x)
 
 -- a and b were taken in at x
-pub record Takes (low high low2 high2 : List ℕ) (x a b : ℕ) : Type 0 where
+pub record TakesPlaces (low high low2 high2 : List ℕ) (x a b : ℕ) : Type 0 where
   pub low_less : (z : ℕ) → at low2 z ≤ at low z
   pub high_more : (z : ℕ) → at high z ≤ at high2 z
   pub low_here : at low2 x ≤ a
@@ -107,6 +107,6 @@ pub record Takes (low high low2 high2 : List ℕ) (x a b : ℕ) : Type 0 where
 
 -- the events of a later place than i have told the events above them
 pub record TakesUp (n : ℕ) (arcs : List Arc) (g : Forest) (i : ℕ) (low high : List ℕ) : Type 0 where
-  pub rows_in : TakesRows n arcs g (length arcs) low high
+  pub rows_in : ReachesRows n arcs g (length arcs) low high
   pub up_low : (x : ℕ) → 0 < at g.by.items x → i < at g.place.items x → at low (at g.up.items x) ≤ at low x
   pub up_high : (x : ℕ) → 0 < at g.by.items x → i < at g.place.items x → at high x ≤ at high (at g.up.items x)

@@ -16,8 +16,8 @@ duration_of d [] = pos 0
 duration_of d (s ∷ way) = (if s.plus then d s.row else neg_ℤ (d s.row)) +ℤ duration_of d way
 
 -- it is a multiple of the period
-abbrev pub IsWhole : ℕ → ℤ → Type 0
-IsWhole period sum = (z : ℤ) × (sum ≡ pos period *ℤ z)
+abbrev pub IsMultiple : ℕ → ℤ → Type 0
+IsMultiple period sum = (z : ℤ) × (sum ≡ pos period *ℤ z)
 
 -- the lower bound of a row and its slack
 abbrev pub duration : List Arc → List ℕ → ℕ → ℤ

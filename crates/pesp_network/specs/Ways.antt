@@ -51,13 +51,13 @@ abbrev pub walk_of : List Arc → Forest → ℕ → List SignedRow
 walk_of arcs g k = record { row = k; plus = true } ∷ way_between arcs g (head_of arcs k) (tail_of arcs k)
 
 -- whether the row joins one of its ends to the event above it
-abbrev pub is_kept : List Arc → Forest → ℕ → Bool
-is_kept arcs g k = (at g.by.items (tail_of arcs k) == k) || (at g.by.items (head_of arcs k) == k)
+abbrev pub joins_upwards : List Arc → Forest → ℕ → Bool
+joins_upwards arcs g k = (at g.by.items (tail_of arcs k) == k) || (at g.by.items (head_of arcs k) == k)
 
 -- the first so many rows, without those of the forest
 abbrev pub outside : List Arc → Forest → ℕ → List ℕ
 outside arcs g zero = []
-outside arcs g (suc i) = if is_kept arcs g (suc i) then outside arcs g i else outside arcs g i ++ suc i ∷ []
+outside arcs g (suc i) = if joins_upwards arcs g (suc i) then outside arcs g i else outside arcs g i ++ suc i ∷ []
 
 -- their fundamental walks
 abbrev pub walks_of : List Arc → Forest → ℕ → List (List SignedRow)

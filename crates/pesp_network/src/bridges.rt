@@ -5,7 +5,7 @@ ghost use Rattle.pesp_problem.specs.Walks.{Names};
 ghost use Rattle.pesp_problem.specs.Forests.{IsBridge};
 ghost use Rattle.pesp_network.specs.Networks.{arcs_of_network};
 ghost use Rattle.pesp_network.specs.Growing.{at};
-ghost use Rattle.pesp_network.specs.Rooted.{IsForest, AreReaches, TakesRows, Takes};
+ghost use Rattle.pesp_network.specs.Rooted.{IsForest, AreReaches, ReachesRows, TakesPlaces};
 
 use crate::parts::{Forest, Reaches};
 use crate::row::NetRow;
@@ -15,7 +15,7 @@ impl Reaches {
     /// Takes two places in at an event.
     fn take(&mut self, event: usize, low: usize, high: usize)
         requires { event < vec_len self.old.low }
-        ensures takes { Takes self.old.low.items self.old.high.items self.new.low.items
+        ensures takes { TakesPlaces self.old.low.items self.old.high.items self.new.low.items
             self.new.high.items event low high }
         ensures events { vec_len self.new.low ≡ vec_len self.old.low }
     {
@@ -31,7 +31,7 @@ impl Reaches {
         ensures kept { at forest.now.by.items event ≡ k → (self.new.low.items ≡ self.old.low.items)
             × (self.new.high.items ≡ self.old.high.items) }
         ensures takes { at forest.now.by.items event ≢ k
-            → Takes self.old.low.items self.old.high.items self.new.low.items self.new.high.items
+            → TakesPlaces self.old.low.items self.old.high.items self.new.low.items self.new.high.items
             event (at forest.now.place.items other) (at forest.now.place.items other) }
         ensures events { vec_len self.new.low ≡ vec_len self.old.low }
     {
@@ -51,7 +51,7 @@ impl Reaches {
         ensures kept { at forest.now.by.items event ≡ 0 → (self.new.low.items ≡ self.old.low.items)
             × (self.new.high.items ≡ self.old.high.items) }
         ensures takes { 0 < at forest.now.by.items event
-            → Takes self.old.low.items self.old.high.items self.new.low.items self.new.high.items
+            → TakesPlaces self.old.low.items self.old.high.items self.new.low.items self.new.high.items
             (at forest.now.up.items event) (at self.old.low.items event)
             (at self.old.high.items event) }
         ensures events { vec_len self.new.low ≡ vec_len self.old.low }
@@ -68,7 +68,7 @@ impl Reaches {
 /// What is reached from each event itself.
 fn reach_rows(alloc: Global, rows: &[NetRow], forest: &Forest) -> Result<Reaches, AllocError>
     requires { IsForest (vec_len forest.now.up) (arcs_of_network rows.now) forest.now }
-    ensures takes { IfOk result (λ r. TakesRows (vec_len forest.now.up) (arcs_of_network rows.now) forest.now
+    ensures takes { IfOk result (λ r. ReachesRows (vec_len forest.now.up) (arcs_of_network rows.now) forest.now
         (length (arcs_of_network rows.now)) r.low.items r.high.items) }
     ensures events { IfOk result (λ r. vec_len r.low ≡ vec_len forest.now.up) }
 {

@@ -5,7 +5,7 @@ ghost use Rattle.pesp_problem.specs.declared.limits.TheConstants.{MOST_ROWS};
 ghost use Rattle.pesp_problem.specs.Walks.{Names};
 ghost use Rattle.pesp_network.specs.Networks.{arcs_of_network, net_row_at};
 ghost use Rattle.pesp_problem.specs.ArcLimits.{HaveEnds};
-ghost use Rattle.pesp_network.specs.Rooted.{IsGrown, IsForest, IsMetBy, number_of};
+ghost use Rattle.pesp_network.specs.Rooted.{IsGrown, IsForest, IsMetBy, row_number_of};
 
 use crate::growth::grow;
 use crate::parts::{Forest, Growth};
@@ -28,7 +28,7 @@ fn pick(alloc: Global, rows: &[NetRow], numbers: &[u32]) -> Result<Vec<NetRow>, 
 /// The number of the k-th of these rows, and 0 for 0.
 fn numbered(numbers: &[u32], k: usize) -> usize
     requires { k ≤ length numbers.now }
-    ensures { result ≡ number_of numbers.now k }
+    ensures { result ≡ row_number_of numbers.now k }
 {
     if k == 0 {
         return 0;
@@ -39,7 +39,7 @@ fn numbered(numbers: &[u32], k: usize) -> usize
 /// The same for each.
 fn renumber(alloc: Global, by: &[usize], numbers: &[u32]) -> Result<Vec<usize>, AllocError>
     requires { All (λ k. k ≤ length numbers.now) by.now }
-    ensures { IfOk result (λ named. named.items ≡ map (number_of numbers.now) by.now) }
+    ensures { IfOk result (λ named. named.items ≡ map (row_number_of numbers.now) by.now) }
 {
     by.iter().map(|k| numbered(numbers, *k)).collect(alloc)
 }

@@ -69,7 +69,7 @@ pub struct Network {
 
 impl Model for Network {
     ghost use Rattle.pesp_network.specs.Networks.{NetworkValue};
-    ghost use Rattle.pesp_network.specs.Held.{IsHeld};
+    ghost use Rattle.pesp_network.specs.Held.{NetworkIsHeld};
 
     ghost Value = { NetworkValue };
 
@@ -80,7 +80,7 @@ impl Model for Network {
       forest = n.kept.items;
     } };
 
-    ghost invariant = { λ n. IsHeld (record {
+    ghost invariant = { λ n. NetworkIsHeld (record {
       period = n.period;
       events = n.events;
       rows = n.rows.items;

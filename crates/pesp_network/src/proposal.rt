@@ -11,15 +11,15 @@ use std::cmp::Ordering;
 
 /// A row by its place, and what decides how early it is taken.
 #[derive(Clone, Copy)]
-struct Candidate {
+struct ForestRow {
     place: usize,
     span: u32,
     weight: u64,
 }
 
-impl Candidate {
+impl ForestRow {
     /// By rising span / (weight + 1), compared as products, and then by rising place.
-    fn order(&self, other: &Candidate) -> Ordering {
+    fn order(&self, other: &ForestRow) -> Ordering {
         let here = u128::from(self.span) * (u128::from(other.weight) + 1);
         let there = u128::from(other.span) * (u128::from(self.weight) + 1);
         here.cmp(&there).then(self.place.cmp(&other.place))
@@ -71,12 +71,12 @@ impl Groups {
 }
 
 /// The rows in the order in which they are taken.
-fn candidates_of(alloc: Global, rows: &[NetRow]) -> Result<Vec<Candidate>, AllocError>
+fn candidates_of(alloc: Global, rows: &[NetRow]) -> Result<Vec<ForestRow>, AllocError>
     ensures { IfOk result (λ candidates. vec_len candidates ≡ length rows.now) }
 {
     let mut candidates = Vec::with_capacity(alloc, rows.len())?;
     for (place, row) in rows.iter().enumerate() {
-        candidates.push(Candidate {
+        candidates.push(ForestRow {
             place,
             span: row.span,
             weight: row.weight,
@@ -100,7 +100,7 @@ fn joins(rows: &[NetRow], groups: &mut Groups, place: usize) -> bool
 fn taken(
     alloc: Global,
     rows: &[NetRow],
-    candidates: &[Candidate],
+    candidates: &[ForestRow],
     groups: &mut Groups,
 ) -> Result<Vec<u32>, AllocError>
     requires few { length rows.now ≤ MOST_ROWS }

@@ -4,12 +4,12 @@ use Rattle.std.specs.Prelude.{ℤ, unsigned_abs}
 use Rattle.pesp_problem.specs.declared.arc.Arc.{Arc}
 use Rattle.pesp_problem.specs.declared.row.SignedRow.{SignedRow}
 use Rattle.pesp_problem.specs.Sums.{floor_div, ceil_div}
-use Rattle.pesp_nets.specs.declared.nets.NetCount.{NetCount}
-use Rattle.pesp_nets.specs.Nets.{sum_of, AreNetCounts}
+use Rattle.pesp_problem.specs.declared.nets.NetCount.{NetCount}
+use Rattle.pesp_problem.specs.Nets.{sum_of, AreNetCounts}
 use Rattle.pesp_nodes.specs.declared.ends.End.{End}
 use Rattle.pesp_nodes.specs.declared.ends.End.TheVariants.{Low, High}
 use Rattle.pesp_nodes.specs.Offsets.{at_end, end_term, end_sum}
-use Rattle.pesp_nets.proofs.Durations.{least_is, greatest_is, floor_div-size, ceil_div-size}
+use Rattle.pesp_problem.proofs.Durations.{least_is, greatest_is, floor_div-size, ceil_div-size}
 
 pub sum_is : (end : End) (arcs : List Arc) (slacks : List (ℕ × ℕ)) (walk : List SignedRow) (counts : List NetCount)
     → AreNetCounts (length arcs) walk counts → sum_of (end_term end arcs slacks) counts

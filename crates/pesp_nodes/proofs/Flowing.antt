@@ -6,15 +6,15 @@ use Rattle.std.proofs.Math.Nat.{mul-le-mul}
 use Rattle.std.proofs.lemmas.Bool.{cases_eq}
 use Rattle.std.proofs.lemmas.List.{get_or-set_same, get_or-set_other, length-set, get_or_default, drop_all}
 use Rattle.std.proofs.lemmas.List.Sums.{fold_more, sum_by-cons, sum_by-take-le}
-use Rattle.pesp_nets.specs.declared.nets.NetCount.{NetCount}
+use Rattle.pesp_problem.specs.declared.nets.NetCount.{NetCount}
 use Rattle.pesp_problem.specs.declared.row.SignedRow.{SignedRow}
 use Rattle.pesp_problem.specs.declared.pair.Pair.{Pair}
 use Rattle.pesp_problem.specs.Walks.{Names, net_count}
 use Rattle.pesp_problem.specs.Nodes.{flow, cycle_at}
-use Rattle.pesp_nets.specs.Nets.{amount, AreSmallCounts, AreNetCounts, nets_at, AreNets}
+use Rattle.pesp_problem.specs.Nets.{amount, AreSmallCounts, AreNetCounts, nets_at, AreNets}
 use Rattle.pesp_nodes.specs.Flows.{count_of, number_at}
 use Rattle.pesp_problem.proofs.Integers.{mul-add, sum_below-single}
-use Rattle.pesp_nets.proofs.Counts.{eq-true, eq-false}
+use Rattle.pesp_problem.proofs.Counts.{eq-true, eq-false}
 use Rattle.pesp_nodes.proofs.LeafValues.{left}
 
 one_small : (here : Bool) (count : ℤ) → unsigned_abs (if here then count else pos 0) ≤ unsigned_abs count

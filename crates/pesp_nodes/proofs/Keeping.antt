@@ -9,7 +9,7 @@ use Rattle.pesp_problem.specs.Nodes.{slack_range}
 use Rattle.pesp_problem.specs.Walks.{IsWalk, AreRows}
 use Rattle.pesp_network.specs.Networks.{NetworkValue, KeepsNetLimits, arcs_of_network, arc_of_net, no_net_row}
 use Rattle.pesp_nodes.specs.declared.passages.Passage.{Passage}
-use Rattle.pesp_nets.specs.Ranges.{AreSlackEnds}
+use Rattle.pesp_problem.specs.Ranges.{AreSlackEnds}
 use Rattle.pesp_nodes.specs.Offsets.{AreArcs}
 use Rattle.pesp_nodes.specs.Passages.{ArePassages, passages_at}
 use Rattle.pesp_nodes.specs.Problems.{IsSmallTable}

@@ -11,7 +11,7 @@ use Rattle.pesp_problem.specs.Sums.{sum_below, scaled}
 use Rattle.pesp_problem.specs.Arcs.{Net, arc_at, over_arcs}
 use Rattle.pesp_problem.specs.Nodes.{Node, offsets_left, offset_part, slack_part, flow, leaf_value}
 use Rattle.pesp_problem.proofs.Integers.{cong_add, sum_below-sub}
-use Rattle.pesp_nets.proofs.LeafValues.{IsWhole, offset_first, offset_more, offset_none, offset_all}
+use Rattle.pesp_problem.proofs.LeafValues.{IsWhole, offset_first, offset_more, offset_none, offset_all}
 use Rattle.pesp_nodes.specs.Problems.{ArePairs}
 use Rattle.pesp_nodes.specs.Values.{row_term_at}
 

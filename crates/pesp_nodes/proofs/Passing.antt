@@ -12,7 +12,7 @@ use Rattle.pesp_problem.specs.Walks.{sign, net_count}
 use Rattle.pesp_problem.specs.Nodes.{cycle_at}
 use Rattle.pesp_nodes.specs.declared.passages.Passage.{Passage}
 use Rattle.pesp_nodes.specs.Passages.{sum_over, passages_at, AreBefore, IsPassed, ArePassages}
-use Rattle.pesp_nets.proofs.Counts.{net_count_more, count_small, net_count_small, eq-true, eq-false}
+use Rattle.pesp_problem.proofs.Counts.{net_count_more, count_small, net_count_small, eq-true, eq-false}
 use Rattle.pesp_nodes.proofs.Tables.{passages_none}
 
 abbrev passage : ℕ → ℤ → Passage

@@ -12,10 +12,10 @@ use Rattle.pesp_problem.specs.Arcs.{Net, over_arcs}
 use Rattle.pesp_problem.specs.Walks.{net_count}
 use Rattle.pesp_problem.specs.Nodes.{Node, cycle_at, offsets_left, offset_part, flow, leaf_value}
 use Rattle.pesp_problem.proofs.Integers.{mul_comm, zero-mul, sub-mul, sum_below-same, sum_below-add}
-use Rattle.pesp_nets.specs.declared.nets.NetCount.{NetCount}
-use Rattle.pesp_nets.specs.Nets.{sum_of, AreNetCounts}
-use Rattle.pesp_nodes.specs.Values.{row_term, row_term_at, gain_at}
-use Rattle.pesp_nets.proofs.LeafValues.{part_some, part_none, value_none}
+use Rattle.pesp_problem.specs.declared.nets.NetCount.{NetCount}
+use Rattle.pesp_problem.specs.Nets.{sum_of, AreNetCounts}
+use Rattle.pesp_nodes.specs.Values.{plain_row_term, row_term_at, flow_gain_at}
+use Rattle.pesp_problem.proofs.LeafValues.{part_some, part_none, value_none}
 use Rattle.pesp_nodes.proofs.LeafValues.{value_is}
 
 -- ---- one row
@@ -30,7 +30,7 @@ moved_little : (n : ℕ) (x y p q r s t s' t' z : ℤ) → s ≡ x -ℤ p → t 
 moved_little n x y p q r s t s' t' z a b c d e f g h = omega (arith, ints, clamps)
 
 pub gain_small : (arc : Arc) (range : ℕ × ℕ) (flow : ℤ) → unsigned_abs arc.lower ≤ 1020000 → range.0 ≤ 10000
-    → range.1 ≤ 10000 → unsigned_abs (row_term arc range true flow -ℤ row_term arc range true (pos 0))
+    → range.1 ≤ 10000 → unsigned_abs (plain_row_term arc range true flow -ℤ plain_row_term arc range true (pos 0))
     ≤ unsigned_abs flow * 1030000
 gain_small arc range flow l a b =
     let w : ℤ = pos arc.weight in
@@ -46,12 +46,12 @@ gain_small arc range flow l a b =
 
 -- what the rows add to the value of a pair with this multiplier
 abbrev pub term_of : List Arc → List (ℕ × ℕ) → ℤ → ℕ → ℤ → ℤ
-term_of arcs slacks mult i count = gain_at arcs slacks i (mult *ℤ count)
+term_of arcs slacks mult i count = flow_gain_at arcs slacks i (mult *ℤ count)
 
 no_gain : (arcs : List Arc) (slacks : List (ℕ × ℕ)) (mult : ℤ) (i : ℕ) → term_of arcs slacks mult i (pos 0) ≡ pos 0
 no_gain arcs slacks mult i =
     let none : mult *ℤ pos 0 ≡ pos 0 = mul_comm mult (pos 0) ∙ zero-mul mult in
-    ap (gain_at arcs slacks i) none ∙ itself (row_term_at arcs slacks true i (pos 0))
+    ap (flow_gain_at arcs slacks i) none ∙ itself (row_term_at arcs slacks true i (pos 0))
   where
     itself : (x : ℤ) → x -ℤ x ≡ pos 0
     itself x = omega (arith, ints)
@@ -59,16 +59,16 @@ no_gain arcs slacks mult i =
 pub gains_are : (arcs : List Arc) (slacks : List (ℕ × ℕ)) (mult : ℤ) (walk : List SignedRow)
     (counts : List NetCount) → AreNetCounts (length arcs) walk counts
     → sum_of (term_of arcs slacks mult) counts ≡ over_arcs arcs
-    (λ i. gain_at arcs slacks i (mult *ℤ net_count walk i))
+    (λ i. flow_gain_at arcs slacks i (mult *ℤ net_count walk i))
 gains_are arcs slacks mult walk counts h = h.sums (term_of arcs slacks mult) (no_gain arcs slacks mult)
 
 -- the same arcs and slacks have the same gains
 pub gains_same : (arcs arcs' : List Arc) (slacks slacks' : List (ℕ × ℕ)) (flow : ℕ → ℤ) → arcs ≡ arcs'
-    → slacks ≡ slacks' → over_arcs arcs (λ i. gain_at arcs slacks i (flow i))
-    ≡ over_arcs arcs' (λ i. gain_at arcs' slacks' i (flow i))
+    → slacks ≡ slacks' → over_arcs arcs (λ i. flow_gain_at arcs slacks i (flow i))
+    ≡ over_arcs arcs' (λ i. flow_gain_at arcs' slacks' i (flow i))
 gains_same arcs arcs' slacks slacks' flow e f =
-    let by_arcs : List Arc → ℤ = λ a. over_arcs a (λ i. gain_at a slacks i (flow i)) in
-    let by_slacks : List (ℕ × ℕ) → ℤ = λ s. over_arcs arcs' (λ i. gain_at arcs' s i (flow i)) in
+    let by_arcs : List Arc → ℤ = λ a. over_arcs a (λ i. flow_gain_at a slacks i (flow i)) in
+    let by_slacks : List (ℕ × ℕ) → ℤ = λ s. over_arcs arcs' (λ i. flow_gain_at arcs' s i (flow i)) in
     ap by_arcs e ∙ ap by_slacks f
 
 -- ---- the value
@@ -87,15 +87,15 @@ split_row x y = omega (arith, ints)
 rows_of_one : (arcs : List Arc) (slacks : List (ℕ × ℕ)) (table : List (List SignedRow)) (pair : Pair)
     → over_arcs arcs (λ i. row_term_at arcs slacks true i (flow table (pair ∷ []) i))
     ≡ over_arcs arcs (λ i. row_term_at arcs slacks true i (pos 0))
-    +ℤ over_arcs arcs (λ i. gain_at arcs slacks i (pair.mult *ℤ net_count (cycle_at table (pair.cycle - 1)) i))
+    +ℤ over_arcs arcs (λ i. flow_gain_at arcs slacks i (pair.mult *ℤ net_count (cycle_at table (pair.cycle - 1)) i))
 rows_of_one arcs slacks table pair =
     let count : ℕ → ℤ = λ i. pair.mult *ℤ net_count (cycle_at table (pair.cycle - 1)) i in
     let none : ℕ → ℤ = λ i. row_term_at arcs slacks true i (pos 0) in
     sum_below-same (length arcs) (λ i. row_term_at arcs slacks true i (flow table (pair ∷ []) i))
-    (λ i. none i +ℤ gain_at arcs slacks i (count i))
+    (λ i. none i +ℤ flow_gain_at arcs slacks i (count i))
     (λ i l. ap (row_term_at arcs slacks true i) (flow_is table pair i)
     ∙ split_row (row_term_at arcs slacks true i (count i)) (none i))
-    ∙ sum_below-add (length arcs) none (λ i. gain_at arcs slacks i (count i))
+    ∙ sum_below-add (length arcs) none (λ i. flow_gain_at arcs slacks i (count i))
 
 -- the value of no pairs is what the rows add with no flow
 none_is : (n : Net) (table : List (List SignedRow)) (node : Node) (none : ℤ)
@@ -116,7 +116,7 @@ pub single_is : (n : Net) (table : List (List SignedRow)) (node : Node) (pair : 
     (none offsets rows total : ℤ) → leaf_value n table node [] true ≡ Some none
     → Some left ≡ offsets_left n table node (pair.cycle - 1)
     → offsets ≡ pos n.period *ℤ scaled pair.mult left.0 left.1
-    → rows ≡ over_arcs n.arcs (λ i. gain_at n.arcs node.slacks i
+    → rows ≡ over_arcs n.arcs (λ i. flow_gain_at n.arcs node.slacks i
     (pair.mult *ℤ net_count (cycle_at table (pair.cycle - 1)) i)) → total ≡ none +ℤ (offsets +ℤ rows)
     → Some total ≡ leaf_value n table node (pair ∷ []) true
 single_is n table node pair left none offsets rows total e l o r t =

@@ -14,14 +14,14 @@ use Rattle.pesp_problem.specs.Arcs.{Net, arc_at, no_arc, over_arcs}
 use Rattle.pesp_problem.specs.Walks.{net_count}
 use Rattle.pesp_problem.specs.Nodes.{Node, cycle_at, slack_range, least_sum, greatest_sum, offsets_left, offset_part, offset_range, weight_of, slack_part, flow, leaf_value}
 use Rattle.pesp_problem.proofs.Integers.{mul-add, mul-le, sum_below-le, sum_below-add, sum_below-mul, sum_below-zero}
-use Rattle.pesp_nets.specs.Ranges.{AreSlackEnds}
+use Rattle.pesp_problem.specs.Ranges.{AreSlackEnds}
 use Rattle.pesp_nodes.specs.Offsets.{AreArcs}
 use Rattle.pesp_network.specs.Networks.{KeepsNetLimits, arc_of_net}
-use Rattle.pesp_nodes.specs.Problems.{ProblemValue, net_of, IsNodeOf, IsSmallTable, Rise, ArePairs}
-use Rattle.pesp_nets.proofs.Counts.{amounts_short}
-use Rattle.pesp_nets.proofs.Durations.{left_small}
+use Rattle.pesp_nodes.specs.Problems.{ProblemValue, problem_net, IsNodeOf, IsSmallTable, Rise, ArePairs}
+use Rattle.pesp_problem.proofs.Counts.{amounts_short}
+use Rattle.pesp_problem.proofs.Durations.{left_small}
 use Rattle.pesp_nodes.proofs.Keeping.{arcs_small}
-use Rattle.pesp_nets.proofs.LeafValues.{scaled_times, weight_small}
+use Rattle.pesp_problem.proofs.LeafValues.{scaled_times, weight_small}
 
 -- ---- sums and products
 
@@ -228,9 +228,9 @@ together t lower slack (Some z) offsets l s = omega (arith, ints)
 -- the value of a leaf is below 10^26 by amount
 pub value_small : (p : ProblemValue) (node : Node) (pairs : List Pair) (weighted : Bool) → KeepsNetLimits p.network
     → IsSmallTable p.table → AreSlackEnds node.slacks → IsNodeOf p node → ArePairs (length p.table) pairs
-    → IfSome (leaf_value (net_of p) p.table node pairs weighted) (λ v. unsigned_abs v < 10 ^ 26)
+    → IfSome (leaf_value (problem_net p) p.table node pairs weighted) (λ v. unsigned_abs v < 10 ^ 26)
 value_small p node pairs weighted keeps small ends is are =
-    let n = net_of p in
+    let n = problem_net p in
     let table = p.table in
     let m = length n.arcs in
     let arcs_long : m ≡ length p.network.rows = length-map p.network.rows arc_of_net in

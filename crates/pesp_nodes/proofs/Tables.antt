@@ -11,7 +11,7 @@ use Rattle.pesp_problem.specs.Nodes.{cycle_at}
 use Rattle.pesp_problem.proofs.Integers.{sum_below-le}
 use Rattle.pesp_nodes.specs.declared.passages.Passage.{Passage}
 use Rattle.pesp_nodes.specs.Passages.{ArePassages, ArePassagesOf, sum_over}
-use Rattle.pesp_nets.proofs.Counts.{net_count_small}
+use Rattle.pesp_problem.proofs.Counts.{net_count_small}
 
 pub empty_at : {X : Type 0} (n i : ℕ) → get_or {A = List X} (replicate n []) i [] ≡ []
 empty_at zero i = refl

@@ -11,12 +11,12 @@ use Rattle.pesp_problem.specs.Sums.{sum_below}
 use Rattle.pesp_problem.specs.Walks.{net_count}
 use Rattle.pesp_problem.specs.Nodes.{cycle_at}
 use Rattle.pesp_problem.proofs.Integers.{sum_below-same, sum_below-single}
-use Rattle.pesp_nets.specs.declared.nets.NetCount.{NetCount}
+use Rattle.pesp_problem.specs.declared.nets.NetCount.{NetCount}
 use Rattle.pesp_nodes.specs.declared.passages.Passage.{Passage}
-use Rattle.pesp_nets.specs.Nets.{sum_of, nets_at, AreNetCounts, AreNets}
+use Rattle.pesp_problem.specs.Nets.{sum_of, nets_at, AreNetCounts, AreNets}
 use Rattle.pesp_nodes.specs.Nets.{of_cycle, IsRowAdded}
 use Rattle.pesp_nodes.specs.Passages.{sum_over, passages_at, ArePassages}
-use Rattle.pesp_nets.proofs.Counts.{eq-true, eq-false, amounts_short, amount_is}
+use Rattle.pesp_problem.proofs.Counts.{eq-true, eq-false, amounts_short, amount_is}
 use Rattle.pesp_nodes.proofs.Tables.{empty_at, length-replicate}
 
 -- ---- one row

@@ -3,8 +3,8 @@ use Rattle.std.specs.Prelude.{◌≡◌, ℕ, ◌<◌, ◌≤◌, ◌^◌, List,
 use Rattle.pesp_problem.specs.declared.row.SignedRow.{SignedRow}
 use Rattle.pesp_problem.specs.declared.pair.Pair.{Pair}
 use Rattle.pesp_problem.specs.Nodes.{flow}
-use Rattle.pesp_nets.specs.declared.nets.NetCount.{NetCount}
-use Rattle.pesp_nets.specs.Nets.{sum_of}
+use Rattle.pesp_problem.specs.declared.nets.NetCount.{NetCount}
+use Rattle.pesp_problem.specs.Nets.{sum_of}
 
 -- the entries at place i, added up
 abbrev pub count_of : List NetCount → ℕ → ℤ

@@ -1,7 +1,7 @@
 -- The net counts of the cycles, as the passages of one row after the other are added.
 use Rattle.std.specs.Prelude.{◌≡◌, ℕ, ◌+◌, ◌<◌, List, if◌then◌else◌, ◌==◌, length, ℤ, pos, ◌+ℤ◌, All}
-use Rattle.pesp_nets.specs.declared.nets.NetCount.{NetCount}
-use Rattle.pesp_nets.specs.Nets.{sum_of, nets_at}
+use Rattle.pesp_problem.specs.declared.nets.NetCount.{NetCount}
+use Rattle.pesp_problem.specs.Nets.{sum_of, nets_at}
 use Rattle.pesp_nodes.specs.declared.passages.Passage.{Passage}
 use Rattle.pesp_nodes.specs.Passages.{sum_over}
 

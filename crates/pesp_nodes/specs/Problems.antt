@@ -8,7 +8,7 @@ use Rattle.pesp_problem.specs.declared.cut.Cut.{Cut}
 use Rattle.pesp_problem.specs.Arcs.{Net}
 use Rattle.pesp_problem.specs.Walks.{Names, IsWalk}
 use Rattle.pesp_problem.specs.Nodes.{Node, cycle_at}
-use Rattle.pesp_nets.specs.Ranges.{IsCut}
+use Rattle.pesp_problem.specs.Ranges.{IsCut}
 use Rattle.pesp_network.specs.Networks.{NetworkValue, net_of_network, signed_rows}
 use Rattle.pesp_nodes.specs.declared.refusal.ProblemRefusal.{ProblemRefusal}
 use Rattle.pesp_nodes.specs.declared.refusal.ProblemRefusal.TheVariants.{Memory, OpenWalk, TableTooLarge}
@@ -19,8 +19,8 @@ pub record ProblemValue : Type 0 where
   pub table : List (List SignedRow)
 
 -- the period and the arcs of a problem
-abbrev pub net_of : ProblemValue → Net
-net_of p = net_of_network p.network
+abbrev pub problem_net : ProblemValue → Net
+problem_net p = net_of_network p.network
 
 -- at most 100000 cycles with at most 10000000 signed rows
 pub record IsSmallTable (table : List (List SignedRow)) : Type 0 where
@@ -34,7 +34,7 @@ pub record IsFirstOpen (arcs : List Arc) (table : List (List SignedRow)) (cycle 
   pub opens : IsWalk arcs (cycle_at table (cycle - 1)) → ⊥
 
 -- all walks of the table close, and it passes a limit
-pub record IsTooLarge (arcs : List Arc) (table : List (List SignedRow)) : Type 0 where
+pub record IsTooLargeTable (arcs : List Arc) (table : List (List SignedRow)) : Type 0 where
   pub closed : (c : ℕ) → c < length table → IsWalk arcs (cycle_at table c)
   pub large : IsSmallTable table → ⊥
 
@@ -42,7 +42,7 @@ pub record IsTooLarge (arcs : List Arc) (table : List (List SignedRow)) : Type 0
 abbrev pub IsProblemRefusal : List Arc → List (List SignedRow) → ProblemRefusal → Type 0
 IsProblemRefusal arcs table Memory = ⊤
 IsProblemRefusal arcs table (OpenWalk cycle) = IsFirstOpen arcs table cycle
-IsProblemRefusal arcs table TableTooLarge = IsTooLarge arcs table
+IsProblemRefusal arcs table TableTooLarge = IsTooLargeTable arcs table
 
 -- a slack range for each row and an offset range for each cycle
 pub record IsNodeOf (p : ProblemValue) (node : Node) : Type 0 where

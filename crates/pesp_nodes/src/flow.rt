@@ -5,15 +5,14 @@ ghost use Rattle.pesp_problem.specs.declared.limits.TheConstants.{MOST_MULTIPLIE
 ghost use Rattle.pesp_problem.specs.declared.row.SignedRow.{SignedRow};
 ghost use Rattle.pesp_problem.specs.Walks.{Names};
 ghost use Rattle.pesp_problem.specs.Nodes.{flow};
-ghost use Rattle.pesp_nets.specs.Nets.{AreSmallCounts, AreZeros, AreNets};
+ghost use Rattle.pesp_problem.specs.Nets.{AreSmallCounts, AreZeros, AreNets};
 ghost use Rattle.pesp_nodes.specs.Flows.{count_of, number_at, AreSmallFlows, AreFlows};
 ghost use Rattle.pesp_nodes.specs.Passages.{mult_of, sum_over, ArePassagesOf};
 ghost use Rattle.pesp_nodes.specs.Problems.{Rise, ArePairs};
 
 use crate::passages::Passage;
-use pesp_nets::{NetCount, Nets};
-use pesp_problem::Pair;
 use pesp_problem::exact::{plus, times};
+use pesp_problem::{NetCount, Nets, Pair};
 use std::alloc::{AllocError, Global};
 
 /// The multiplier of a cycle, 0 where no pair has it.

@@ -6,7 +6,7 @@ ghost use Rattle.pesp_problem.specs.declared.pair.Pair.{Pair};
 ghost use Rattle.pesp_problem.specs.declared.cut.Cut.TheVariants.{Slack, Offset};
 ghost use Rattle.pesp_problem.specs.Walks.{Names};
 ghost use Rattle.pesp_problem.specs.Nodes.{Node, slack_range, offset_range};
-ghost use Rattle.pesp_nets.specs.Ranges.{AreSlackEnds};
+ghost use Rattle.pesp_problem.specs.Ranges.{AreSlackEnds};
 ghost use Rattle.pesp_nodes.specs.Offsets.{AreOffsetEnds};
 ghost use Rattle.pesp_nodes.specs.Problems.{IsCutOf, ArePairs};
 

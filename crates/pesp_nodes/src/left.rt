@@ -5,7 +5,7 @@ ghost use Rattle.pesp_problem.specs.Walks.{Names};
 ghost use Rattle.pesp_problem.specs.Nodes.{offsets_left};
 ghost use Rattle.pesp_problem.specs.Nodes as spec;
 ghost use Rattle.pesp_nodes.specs.Offsets.{IsSmallOffset};
-ghost use Rattle.pesp_nodes.specs.Problems.{net_of, IsNodeOf};
+ghost use Rattle.pesp_nodes.specs.Problems.{problem_net, IsNodeOf};
 
 use crate::node::Node;
 use crate::offsets::shared;
@@ -30,7 +30,7 @@ fn are_whole(arcs: &[Arc], slacks: &[(u32, u32)]) -> bool
 /// Whether the slack ranges of a node are those of the root.
 pub(crate) fn has_root_slacks(problem: &Problem, node: &Node) -> bool
     requires { IsNodeOf problem.now node.now }
-    ensures { IsTrue result → node.now.slacks ≡ spec.root_slacks (net_of problem.now) }
+    ensures { IsTrue result → node.now.slacks ≡ spec.root_slacks (problem_net problem.now) }
 {
     are_whole(problem.arcs(), node.slacks())
 }
@@ -40,8 +40,8 @@ pub(crate) fn has_root_slacks(problem: &Problem, node: &Node) -> bool
 fn left_of_root(problem: &Problem, node: &Node, place: usize) -> Option<(i64, i64)>
     requires node { IsNodeOf problem.now node.now }
     requires exists { place < length problem.now.table }
-    requires whole { node.now.slacks ≡ spec.root_slacks (net_of problem.now) }
-    ensures value { result ≡ offsets_left (net_of problem.now) problem.now.table node.now place }
+    requires whole { node.now.slacks ≡ spec.root_slacks (problem_net problem.now) }
+    ensures value { result ≡ offsets_left (problem_net problem.now) problem.now.table node.now place }
     ensures small { IfSome result (λ left. IsSmallOffset problem.now.network.period left.0
         × IsSmallOffset problem.now.network.period left.1) }
 {
@@ -57,8 +57,8 @@ pub(crate) fn left_with(
 ) -> Option<(i64, i64)>
     requires node { IsNodeOf problem.now node.now }
     requires exists { place < length problem.now.table }
-    requires whole { is_whole ≡ true → node.now.slacks ≡ spec.root_slacks (net_of problem.now) }
-    ensures value { result ≡ offsets_left (net_of problem.now) problem.now.table node.now place }
+    requires whole { is_whole ≡ true → node.now.slacks ≡ spec.root_slacks (problem_net problem.now) }
+    ensures value { result ≡ offsets_left (problem_net problem.now) problem.now.table node.now place }
     ensures small { IfSome result (λ left. IsSmallOffset problem.now.network.period left.0
         × IsSmallOffset problem.now.network.period left.1) }
 {
@@ -73,9 +73,9 @@ pub(crate) fn left_with(
 pub fn first_gap(problem: &Problem, node: &Node) -> Option<u32>
     requires { IsNodeOf problem.now node.now }
     ensures { MatchOption result ((c : ℕ) → c < length problem.now.table
-        → offsets_left (net_of problem.now) problem.now.table node.now c ≡ None → ⊥)
+        → offsets_left (problem_net problem.now) problem.now.table node.now c ≡ None → ⊥)
         (λ cycle. Names (length problem.now.table) cycle
-        × (offsets_left (net_of problem.now) problem.now.table node.now (cycle - 1) ≡ None)) }
+        × (offsets_left (problem_net problem.now) problem.now.table node.now (cycle - 1) ≡ None)) }
 {
     let _few = problem.arcs();
     let is_whole = has_root_slacks(problem, node);

@@ -3,12 +3,11 @@
 ghost use Rattle.std.specs.Prelude.{◌≡◌, ℕ, ◌+ℤ◌, ◌<◌, ◌≤◌, pos, length, vec_len, unsigned_abs, All, OnOk, slice_index_or};
 ghost use Rattle.pesp_problem.specs.declared.limits.TheConstants.{MOST_SIGNED_ROWS};
 ghost use Rattle.pesp_problem.specs.Walks.{Names, sign, net_count};
-ghost use Rattle.pesp_nets.specs.Nets.{AreZeros};
+ghost use Rattle.pesp_problem.specs.Nets.{AreZeros};
 ghost use Rattle.pesp_nodes.specs.Nets.{IsRowAdded};
 
 use crate::passages::Passage;
-use pesp_nets::{NetCount, Nets};
-use pesp_problem::SignedRow;
+use pesp_problem::{NetCount, Nets, SignedRow};
 use std::alloc::AllocError;
 
 /// A count after one signed row more.

@@ -4,14 +4,13 @@ ghost use Rattle.std.specs.Prelude.{◌≡◌, ℕ, ◌-◌, ◌≤◌, List, le
 ghost use Rattle.pesp_problem.specs.declared.limits.TheConstants.{MOST_OFFSET, MOST_SLACK};
 ghost use Rattle.pesp_problem.specs.Nodes as spec;
 ghost use Rattle.pesp_problem.specs.Nodes.{part};
-ghost use Rattle.pesp_nets.specs.Ranges.{AreSlackEnds, cut_slack, cut_offset};
+ghost use Rattle.pesp_problem.specs.Ranges.{AreSlackEnds, cut_slack, cut_offset};
 ghost use Rattle.pesp_nodes.specs.Offsets.{IsOffsetEnds, AreOffsetEnds};
 ghost use Rattle.pesp_nodes.specs.Problems.{ProblemValue, IsNodeOf, IsCutOf};
-ghost use Rattle.pesp_nets.specs.Pending.{change_of, restored};
+ghost use Rattle.pesp_problem.specs.Pending.{change_of, restored};
 ghost use Rattle.pesp_nodes.specs.Pending.{IsChange};
 
-use pesp_nets::Change;
-use pesp_problem::{Cut, Memory, Side};
+use pesp_problem::{Change, Cut, Memory, Side};
 use std::alloc::Global;
 use std::marker::Model;
 
@@ -25,7 +24,7 @@ pub struct Node {
 
 impl Model for Node {
     ghost use Rattle.pesp_problem.specs.Nodes.{Node as Ranges};
-    ghost use Rattle.pesp_nets.specs.Ranges.{AreSlackEnds};
+    ghost use Rattle.pesp_problem.specs.Ranges.{AreSlackEnds};
     ghost use Rattle.pesp_nodes.specs.Offsets.{AreOffsetEnds};
 
     ghost Value = { Ranges };

@@ -8,14 +8,13 @@ ghost use Rattle.pesp_problem.specs.Sums as sums;
 ghost use Rattle.pesp_problem.specs.Arcs.{arc_at};
 ghost use Rattle.pesp_problem.specs.Nodes.{slack_range, odijk_range, range_or_none};
 ghost use Rattle.pesp_nodes.specs.declared.ends.End.TheVariants.{Low, High};
-ghost use Rattle.pesp_nets.specs.Nets.{AreSmallCounts, AreNetCounts};
-ghost use Rattle.pesp_nets.specs.Ranges.{AreSlackEnds, left_of};
+ghost use Rattle.pesp_problem.specs.Nets.{AreSmallCounts, AreNetCounts};
+ghost use Rattle.pesp_problem.specs.Ranges.{AreSlackEnds, left_of};
 ghost use Rattle.pesp_nodes.specs.Offsets.{AreArcs, IsSmallOffset, IsOffsetEnds, at_end, end_term, end_sum};
 
 use crate::ends::{End, end_for};
-use pesp_nets::NetCount;
-use pesp_problem::Arc;
 use pesp_problem::exact::{ceil_div, floor_div, plus, times};
+use pesp_problem::{Arc, NetCount};
 
 /// The duration of the row at a place, at an end of its slack range.
 fn duration_at(arcs: &[Arc], slacks: &[(u32, u32)], place: u32, end: End) -> i64

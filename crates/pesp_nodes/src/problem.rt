@@ -6,11 +6,11 @@ ghost use Rattle.pesp_problem.specs.Nodes as spec;
 ghost use Rattle.pesp_problem.specs.Walks.{IsWalk};
 ghost use Rattle.pesp_network.specs.Networks.{arcs_of_network, net_of_network, KeepsNetLimits};
 ghost use Rattle.pesp_problem.specs.declared.row.SignedRow.{SignedRow};
-ghost use Rattle.pesp_nets.specs.Nets.{AreNets, AreSmallCounts};
+ghost use Rattle.pesp_problem.specs.Nets.{AreNets, AreSmallCounts};
 ghost use Rattle.pesp_nodes.specs.Passages.{ArePassages};
-ghost use Rattle.pesp_nets.specs.Ranges.{AreSlackEnds};
+ghost use Rattle.pesp_problem.specs.Ranges.{AreSlackEnds};
 ghost use Rattle.pesp_nodes.specs.Offsets.{AreArcs, AreOffsetEnds, IsSmallRange};
-ghost use Rattle.pesp_nodes.specs.Problems.{net_of, IsNodeOf, IsProblemRefusal, IsSmallTable};
+ghost use Rattle.pesp_nodes.specs.Problems.{problem_net, IsNodeOf, IsProblemRefusal, IsSmallTable};
 
 use crate::closed_walks::first_open;
 use crate::node::Node;
@@ -18,9 +18,8 @@ use crate::offsets::bounds_of;
 use crate::passages::Passages;
 use crate::refusal::ProblemRefusal;
 use crate::table::{is_small, nets_of_passages, passages_of_table};
-use pesp_nets::Nets;
 use pesp_network::Network;
-use pesp_problem::{Arc, Memory, Walk};
+use pesp_problem::{Arc, Memory, Nets, Walk};
 use std::alloc::{AllocError, Global};
 use std::marker::Model;
 
@@ -123,7 +122,7 @@ impl Problem {
     pub fn new(alloc: Global, network: Network, table: Vec<Walk>) -> Result<Problem, ProblemRefusal>
         ensures network { IfOk result (λ p. p.network ≡ network) }
         ensures table { IfOk result (λ p. p.table ≡ table.items) }
-        ensures closed { IfOk result (λ p. All (IsWalk (net_of p).arcs) p.table) }
+        ensures closed { IfOk result (λ p. All (IsWalk (problem_net p).arcs) p.table) }
         ensures small { IfOk result (λ p. IsSmallTable p.table) }
         ensures refused { IfErr result
             (IsProblemRefusal (arcs_of_network network.rows) table.items) }
@@ -153,7 +152,7 @@ impl Problem {
     /// The walks; cycles are numbered from 1 in this order.
     pub fn table(&self) -> &[Walk]
         ensures table { result.now ≡ self.now.table }
-        ensures closed { All (IsWalk (net_of self.now).arcs) self.now.table }
+        ensures closed { All (IsWalk (problem_net self.now).arcs) self.now.table }
         ensures small { IsSmallTable self.now.table }
     {
         &self.table
@@ -162,7 +161,7 @@ impl Problem {
     /// The node in which every timetable lies: slacks from 0 to the span of their row, and for each cycle the offsets that
     /// these slacks allow (Odijk 1996).
     pub fn root(&self, alloc: Global) -> Result<Node, Memory>
-        ensures root { IfOk result (λ node. node ≡ spec.root (net_of self.now) self.now.table) }
+        ensures root { IfOk result (λ node. node ≡ spec.root (problem_net self.now) self.now.table) }
         ensures node { IfOk result (IsNodeOf self.now) }
     {
         let slacks = root_slacks(alloc, self.arcs())?;
@@ -186,7 +185,7 @@ impl Problem {
 
     /// The rows in order, without their origins.
     pub fn arcs(&self) -> &[Arc]
-        ensures arcs { result.now ≡ (net_of self.now).arcs }
+        ensures arcs { result.now ≡ (problem_net self.now).arcs }
         ensures limits { AreArcs result.now }
         ensures few { length result.now ≤ MOST_ROWS }
         ensures rows { length result.now ≡ length self.now.network.rows }
@@ -213,8 +212,8 @@ impl Problem {
 
     /// The offset range of each cycle at the root.
     pub(crate) fn bounds(&self) -> &[(i64, i64)]
-        ensures bounds { result.now ≡ map (spec.odijk_range (net_of self.now)
-            (spec.root_slacks (net_of self.now))) self.now.table }
+        ensures bounds { result.now ≡ map (spec.odijk_range (problem_net self.now)
+            (spec.root_slacks (problem_net self.now))) self.now.table }
         ensures ends { AreOffsetEnds result.now }
         ensures small { All (IsSmallRange self.now.network.period) result.now }
     {

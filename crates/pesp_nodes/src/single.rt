@@ -6,18 +6,17 @@ ghost use Rattle.pesp_problem.specs.declared.row.SignedRow.{SignedRow};
 ghost use Rattle.pesp_problem.specs.Arcs.{over_arcs};
 ghost use Rattle.pesp_problem.specs.Walks.{Names, net_count};
 ghost use Rattle.pesp_problem.specs.Nodes as spec;
-ghost use Rattle.pesp_nets.specs.Nets.{AreSmallCounts, AreNetCounts};
-ghost use Rattle.pesp_nets.specs.Ranges.{AreSlackEnds};
+ghost use Rattle.pesp_problem.specs.Nets.{AreSmallCounts, AreNetCounts};
+ghost use Rattle.pesp_problem.specs.Ranges.{AreSlackEnds};
 ghost use Rattle.pesp_nodes.specs.Offsets.{AreArcs};
-ghost use Rattle.pesp_nodes.specs.Problems.{net_of, IsNodeOf};
-ghost use Rattle.pesp_nodes.specs.Values.{row_term, gain_at};
+ghost use Rattle.pesp_nodes.specs.Problems.{problem_net, IsNodeOf};
+ghost use Rattle.pesp_nodes.specs.Values.{plain_row_term, flow_gain_at};
 
 use crate::node::Node;
 use crate::problem::Problem;
 use crate::value::{left_at, offset_term, row_term};
-use pesp_nets::NetCount;
 use pesp_problem::exact::{minus, plus, times};
-use pesp_problem::{Arc, Pair};
+use pesp_problem::{Arc, NetCount, Pair};
 
 /// The flow of one pair on a row of its cycle.
 fn flow_of(pair: &Pair, net: &NetCount) -> i128
@@ -37,7 +36,7 @@ fn gain(arc: &Arc, range: (u32, u32), flow: i128) -> i128
     requires high { range.1 ≤ MOST_PERIOD }
     requires flow { unsigned_abs flow ≤ MOST_SIGNED_ROWS }
     ensures value { result
-        ≡ row_term arc.now range true flow -ℤ row_term arc.now range true (pos 0) }
+        ≡ plain_row_term arc.now range true flow -ℤ plain_row_term arc.now range true (pos 0) }
     ensures size { unsigned_abs result ≤ unsigned_abs flow * 1030000 }
 {
     minus(
@@ -55,7 +54,7 @@ fn gain_at(arcs: &[Arc], slacks: &[(u32, u32)], pair: &Pair, net: &NetCount) -> 
     requires exists { net.now.place < length arcs.now }
     requires small { unsigned_abs net.now.count ≤ MOST_SIGNED_ROWS }
     ensures value { result
-        ≡ gain_at arcs.now slacks.now net.now.place (pair.now.mult *ℤ net.now.count) }
+        ≡ flow_gain_at arcs.now slacks.now net.now.place (pair.now.mult *ℤ net.now.count) }
     ensures size { unsigned_abs result ≤ unsigned_abs net.now.count * 1030000 }
 {
     let place = net.place as usize;
@@ -71,7 +70,7 @@ fn gains(arcs: &[Arc], slacks: &[(u32, u32)], counts: &[NetCount], pair: &Pair) 
     requires one { unsigned_abs pair.now.mult ≡ 1 }
     ensures value { (walk : List SignedRow) → AreNetCounts (length arcs.now) walk counts.now
         → result ≡ over_arcs arcs.now
-        (λ i. gain_at arcs.now slacks.now i (pair.now.mult *ℤ net_count walk i)) }
+        (λ i. flow_gain_at arcs.now slacks.now i (pair.now.mult *ℤ net_count walk i)) }
     ensures size { unsigned_abs result ≤ 10300000000000 }
 {
     let mut sum = 0;
@@ -87,9 +86,9 @@ pub fn single_value(problem: &Problem, node: &Node, pair: &Pair, none: i128) -> 
     requires node { IsNodeOf problem.now node.now }
     requires cycle { Names (length problem.now.table) pair.now.cycle }
     requires one { unsigned_abs pair.now.mult ≡ 1 }
-    requires none { spec.leaf_value (net_of problem.now) problem.now.table node.now [] true
+    requires none { spec.leaf_value (problem_net problem.now) problem.now.table node.now [] true
         ≡ Some none }
-    ensures { result ≡ spec.leaf_value (net_of problem.now) problem.now.table node.now
+    ensures { result ≡ spec.leaf_value (problem_net problem.now) problem.now.table node.now
         (pair.now ∷ []) true }
 {
     problem.keeps_limits();

@@ -4,14 +4,13 @@ ghost use Rattle.std.specs.Prelude.{◌≡◌, ℕ, ◌+◌, ◌<◌, ◌≤◌,
 ghost use Rattle.pesp_problem.specs.declared.limits.TheConstants.{MOST_ROWS};
 ghost use Rattle.pesp_problem.specs.declared.row.SignedRow.{SignedRow};
 ghost use Rattle.pesp_problem.specs.Walks.{Names};
-ghost use Rattle.pesp_nets.specs.Nets.{AreNets};
+ghost use Rattle.pesp_problem.specs.Nets.{AreNets};
 ghost use Rattle.pesp_nodes.specs.Passages.{AreBefore, ArePassages};
 ghost use Rattle.pesp_nodes.specs.Problems.{IsSmallTable};
 
 use crate::nets::add_row;
 use crate::passages::{Passages, add_walk};
-use pesp_nets::Nets;
-use pesp_problem::{MOST_CYCLES, MOST_SIGNED_ROWS, Walk};
+use pesp_problem::{MOST_CYCLES, MOST_SIGNED_ROWS, Nets, Walk};
 use std::alloc::{AllocError, Global};
 
 /// Whether a table has at most 100000 cycles and at most 10000000 signed rows.

@@ -8,12 +8,12 @@ ghost use Rattle.pesp_problem.specs.Arcs.{over_arcs};
 ghost use Rattle.pesp_problem.specs.Walks.{Names};
 ghost use Rattle.pesp_problem.specs.Nodes.{offsets_left, offset_part, weight_of, flow};
 ghost use Rattle.pesp_problem.specs.Nodes as spec;
-ghost use Rattle.pesp_nets.specs.Ranges.{AreSlackEnds, lesser};
+ghost use Rattle.pesp_problem.specs.Ranges.{AreSlackEnds, lesser};
 ghost use Rattle.pesp_nodes.specs.Offsets.{AreArcs, IsSmallOffset};
 ghost use Rattle.pesp_nodes.specs.Flows.{AreSmallFlows, AreFlows};
 ghost use Rattle.pesp_nodes.specs.Passages.{ArePassages};
-ghost use Rattle.pesp_nodes.specs.Problems.{net_of, IsNodeOf, Rise, ArePairs};
-ghost use Rattle.pesp_nodes.specs.Values.{row_term, row_term_at};
+ghost use Rattle.pesp_nodes.specs.Problems.{problem_net, IsNodeOf, Rise, ArePairs};
+ghost use Rattle.pesp_nodes.specs.Values.{plain_row_term, row_term_at};
 
 use crate::ends::{End, end_for};
 use crate::flow::{flow_at, flows_of};
@@ -29,7 +29,7 @@ use pesp_problem::{Arc, Pair};
 pub fn left_at(problem: &Problem, node: &Node, place: usize) -> Option<(i64, i64)>
     requires node { IsNodeOf problem.now node.now }
     requires exists { place < length problem.now.table }
-    ensures value { result ≡ offsets_left (net_of problem.now) problem.now.table node.now place }
+    ensures value { result ≡ offsets_left (problem_net problem.now) problem.now.table node.now place }
     ensures small { IfSome result (λ left. IsSmallOffset problem.now.network.period left.0
         × IsSmallOffset problem.now.network.period left.1) }
 {
@@ -50,7 +50,7 @@ pub fn offset_range(problem: &Problem, node: &Node, cycle: u32) -> Option<(i64, 
     requires node { IsNodeOf problem.now node.now }
     requires cycle { Names (length problem.now.table) cycle }
     ensures value { result
-        ≡ offsets_left (net_of problem.now) problem.now.table node.now (cycle - 1) }
+        ≡ offsets_left (problem_net problem.now) problem.now.table node.now (cycle - 1) }
     ensures small { IfSome result (λ left. IsSmallOffset problem.now.network.period left.0
         × IsSmallOffset problem.now.network.period left.1) }
 {
@@ -84,7 +84,7 @@ fn offset_sum(problem: &Problem, node: &Node, pairs: &[Pair]) -> Option<i128>
     requires pairs { ArePairs (length problem.now.table) pairs.now }
     requires few { length problem.now.table ≤ MOST_CYCLES }
     ensures value { result ≡ option_map (λ z. pos problem.now.network.period *ℤ z)
-        (offset_part (net_of problem.now) problem.now.table node.now pairs.now) }
+        (offset_part (problem_net problem.now) problem.now.table node.now pairs.now) }
     ensures size { IfSome result (λ z. unsigned_abs z ≤ 100000 * (1000000000000 * 10300000000000)) }
 {
     let is_whole = has_root_slacks(problem, node);
@@ -135,7 +135,7 @@ pub(crate) fn row_term(arc: &Arc, range: (u32, u32), weighted: bool, flow: i128)
     requires low { range.0 ≤ MOST_PERIOD }
     requires high { range.1 ≤ MOST_PERIOD }
     requires flow { unsigned_abs flow ≤ 10 ^ 24 }
-    ensures value { result ≡ row_term arc.now range weighted flow }
+    ensures value { result ≡ plain_row_term arc.now range weighted flow }
     ensures size { unsigned_abs result ≤ 10 ^ 31 }
 {
     let rest = minus(weight_of(arc, weighted), flow);
@@ -183,7 +183,7 @@ pub fn leaf_value(problem: &Problem, node: &Node, pairs: &[Pair], weighted: bool
     requires node { IsNodeOf problem.now node.now }
     requires pairs { ArePairs (length problem.now.table) pairs.now }
     ensures value { result
-        ≡ spec.leaf_value (net_of problem.now) problem.now.table node.now pairs.now weighted }
+        ≡ spec.leaf_value (problem_net problem.now) problem.now.table node.now pairs.now weighted }
     ensures small { IfSome result (λ value. unsigned_abs value < 10 ^ 26) }
 {
     problem.keeps_limits();

@@ -3,12 +3,11 @@
 ghost use Rattle.std.specs.Prelude.{◌≡◌, ◌≢◌, ◌↔◌, IsTrue, List, [], ◌∷◌, true, length, reverse, drop, OnOk, OnErr};
 ghost use Rattle.pesp_problem.specs.Nodes as spec;
 ghost use Rattle.pesp_nodes.specs.Problems.{IsCutOf};
-ghost use Rattle.pesp_nets.specs.Pending.{pending, waiting, branched};
+ghost use Rattle.pesp_problem.specs.Pending.{pending, waiting, branched};
 ghost use Rattle.pesp_nodes.specs.Pending.{AreChanges, CutsFirst};
 
 use crate::node::Node;
-use pesp_nets::Branch;
-use pesp_problem::{Cut, Memory, Side};
+use pesp_problem::{Branch, Cut, Memory, Side};
 use std::alloc::Global;
 use std::marker::Model;
 
@@ -68,7 +67,7 @@ pub struct NodeWalk {
 impl Model for NodeWalk {
     ghost use Rattle.std.specs.Prelude.{List, length};
     ghost use Rattle.pesp_problem.specs.Nodes.{Node as Ranges};
-    ghost use Rattle.pesp_nets.specs.Pending.{waiting};
+    ghost use Rattle.pesp_problem.specs.Pending.{waiting};
     ghost use Rattle.pesp_nodes.specs.Pending.{AreChanges};
 
     ghost Value = { List Ranges };

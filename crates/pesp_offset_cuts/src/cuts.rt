@@ -1,7 +1,7 @@
 //! Which cuts are tried.
 
-use crate::experience::Experience;
-use pesp_sharp_nodes::{Cut, Cycle, Range, Setting, UNIT};
+use crate::experience::PseudoCosts;
+use pesp_sharp_nodes::{Cycle, OffsetCut, Range, Setting, UNIT};
 use std::alloc::{AllocError, Global};
 use std::cmp::Reverse;
 
@@ -21,7 +21,7 @@ const MOST_TRIED: usize = 4;
 /// part, how many offsets there are beyond the least one, and how well it is thought of.
 #[derive(Clone, Copy)]
 pub struct Candidate {
-    pub cut: Cut,
+    pub cut: OffsetCut,
     pub fraction: i64,
     width: i64,
     pub score: u128,
@@ -29,7 +29,7 @@ pub struct Candidate {
 
 impl Candidate {
     /// A cut at such a fraction, of which nothing else is known.
-    pub fn of(cut: Cut, fraction: i64) -> Candidate {
+    pub fn of(cut: OffsetCut, fraction: i64) -> Candidate {
         Candidate {
             cut,
             fraction,
@@ -62,7 +62,7 @@ fn cut_at(
     let above = duration.checked_sub(most.checked_mul(turn)?)?;
     let fraction = above.checked_div_euclid(period)?.max(0).min(UNIT);
     Some(Candidate {
-        cut: Cut {
+        cut: OffsetCut {
             cycle: number,
             most,
         },
@@ -76,7 +76,7 @@ fn cut_at(
 pub fn candidates(
     alloc: Global,
     setting: &Setting,
-    experience: &Experience,
+    experience: &PseudoCosts,
     ranges: &[Range],
     slacks: &[i64],
 ) -> Result<Vec<Candidate>, AllocError> {
@@ -128,7 +128,7 @@ pub fn widest(list: &[Candidate]) -> Option<Candidate> {
 pub fn worth_trying(
     alloc: Global,
     setting: &Setting,
-    experience: &Experience,
+    experience: &PseudoCosts,
     ranges: &[Range],
     slacks: &[i64],
     most: usize,
@@ -137,7 +137,7 @@ pub fn worth_trying(
     let mut found = further(alloc, &list, NEARLY_WHOLE)?;
     for candidate in found.iter_mut() {
         let weight = setting.cycle(candidate.cut.cycle).map_or(0, |it| it.weight);
-        let Cut { cycle, .. } = candidate.cut;
+        let OffsetCut { cycle, .. } = candidate.cut;
         candidate.score = experience.expected_score(cycle, weight, candidate.fraction);
     }
     found.sort_unstable_by_key(|candidate| (Reverse(candidate.score), candidate.cut.cycle));
@@ -146,10 +146,10 @@ pub fn worth_trying(
 }
 
 /// A cut in the middle of the first range that leaves two offsets at least; None where no range does.
-pub fn open_cut(ranges: &[Range]) -> Option<Cut> {
+pub fn open_cut(ranges: &[Range]) -> Option<OffsetCut> {
     let place = ranges.iter().position(|range| range.width() > 0)?;
     let range = ranges.get(place).copied()?;
-    Some(Cut {
+    Some(OffsetCut {
         cycle: u32::try_from(place).ok()?,
         most: range.least.saturating_add(range.width() / 2),
     })

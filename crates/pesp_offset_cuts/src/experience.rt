@@ -1,6 +1,6 @@
 //! What cuts have gained so far.
 
-use pesp_sharp_nodes::{Side, UNIT};
+use pesp_sharp_nodes::{BoundSense, UNIT};
 use std::alloc::{AllocError, Global};
 
 /// A fraction below which a gain counts as over this fraction.
@@ -34,7 +34,7 @@ const NO_RECORD: Record = Record {
 
 /// What the cuts of each cycle have gained so far.
 #[derive(Drop)]
-pub struct Experience {
+pub struct PseudoCosts {
     records: Vec<Record>,
     by_weight: Gains,
 }
@@ -78,10 +78,10 @@ fn first_score(weight: u64, fraction: i64) -> u128 {
     score.saturating_mul(score)
 }
 
-impl Experience {
+impl PseudoCosts {
     /// No gains for so many cycles.
-    pub fn new(alloc: Global, cycles: usize) -> Result<Experience, AllocError> {
-        Ok(Experience {
+    pub fn new(alloc: Global, cycles: usize) -> Result<PseudoCosts, AllocError> {
+        Ok(PseudoCosts {
             records: vec![in alloc; NO_RECORD; cycles]?,
             by_weight: NO_GAINS,
         })
@@ -102,13 +102,13 @@ impl Experience {
     }
 
     /// Notes what a part of a cut gained, in 1/2^20, where the offset was by a fraction, in 1/65536, outside it.
-    pub fn note(&mut self, cycle: u32, side: Side, gain: i128, fraction: i64) {
+    pub fn note(&mut self, cycle: u32, side: BoundSense, gain: i128, fraction: i64) {
         let Some(record) = self.records.get_mut(cycle as usize) else {
             return;
         };
         match side {
-            Side::AtMost => record.low.note(gain, fraction),
-            Side::AtLeast => record.high.note(gain, fraction),
+            BoundSense::AtMost => record.low.note(gain, fraction),
+            BoundSense::AtLeast => record.high.note(gain, fraction),
         }
     }
 

@@ -6,4 +6,4 @@ mod cuts;
 mod experience;
 
 pub use cuts::{Candidate, candidates, open_cut, tried, widest, worth_trying};
-pub use experience::Experience;
+pub use experience::PseudoCosts;

@@ -1,11 +1,11 @@
 -- Entries that were read from the lines so far.
 use Rattle.std.proofs.Common.{◌≡◌, ◌∙◌, refl, sym, ap, ℕ, ◌+◌, ◌≤◌, ℤ, List, [], ◌∷◌, ◌++◌, length, arith, append_assoc, append-nil, length-append, Some, None, Result, Ok, Err, true, false}
-use Rattle.pesp_text.specs.Words.{lines_of_text}
+use Rattle.pesp_stream.specs.Words.{lines_of_text}
 use Rattle.pesp_report.specs.TimesText.{names_a_time, time_lines}
 use Rattle.pesp_report.specs.declared.refusal.TimesRefusal.{TimesRefusal}
 use Rattle.pesp_report.specs.declared.refusal.TimesRefusal.TheVariants.{BadLine}
 use Rattle.pesp_report.proofs.TimeLines.{numbered}
-use Rattle.pesp_old_times.specs.OldTimes.{behind, entries_for, entry_of}
+use Rattle.pesp_old_times.specs.OldTimes.{behind, entries_for, line_entry}
 
 -- entries that were read before the others
 abbrev pub after : List (ℤ × ℕ) → Result (List (ℤ × ℕ)) TimesRefusal → Result (List (ℤ × ℕ)) TimesRefusal
@@ -45,7 +45,7 @@ module _ (period : ℕ) (text line : List ℕ) (rest : List (List ℕ)) (n : ℕ
   }
 
   -- a line that tells a time
-  pub reads-more : (x : ℤ × ℕ) → names_a_time line ≡ true → entry_of period line ≡ Some x
+  pub reads-more : (x : ℤ × ℕ) → names_a_time line ≡ true → line_entry period line ≡ Some x
       → Reads period text rest (n + 1) (es ++ x ∷ [])
   unfolding entries_for
   reads-more x e h = record {
@@ -55,7 +55,7 @@ module _ (period : ℕ) (text line : List ℕ) (rest : List (List ℕ)) (n : ℕ
   }
 
   -- a line that tells none though it begins so
-  pub reads-fault : names_a_time line ≡ true → entry_of period line ≡ None
+  pub reads-fault : names_a_time line ≡ true → line_entry period line ≡ None
       → entries_for period (time_lines text) ≡ Err (BadLine (n + 1))
   unfolding entries_for
   reads-fault e h = r.goes ∙ rw (e, h) refl

@@ -30,13 +30,13 @@ abbrev pub apart : ℕ → ℕ → ℕ
 apart from to = (from - to) + (to - from)
 
 -- the same by the shorter way round
-abbrev pub distance : ℕ → ℕ → ℕ → ℕ
-distance period from to = min (apart from to) (period - apart from to)
+abbrev pub circular_distance : ℕ → ℕ → ℕ → ℕ
+circular_distance period from to = min (apart from to) (period - apart from to)
 
 -- how far an event has moved from where it is wanted
 abbrev pub move_of : ℕ → Option ℕ → ℕ → ℕ
 move_of period None time = 0
-move_of period (Some wanted) time = distance period wanted time
+move_of period (Some wanted) time = circular_distance period wanted time
 
 -- how far the event at a place has moved from where it is wanted
 abbrev pub move_at : ℕ → List (Option ℕ) → List ℕ → ℕ → ℕ
@@ -48,9 +48,9 @@ some_move zero = 0
 some_move (suc by) = 1
 
 -- how many of the first events have moved
-unfoldable pub moved : ℕ → List (Option ℕ) → List ℕ → ℕ → ℕ
-moved period wanted times zero = 0
-moved period wanted times (suc n) = moved period wanted times n + some_move (move_at period wanted times n)
+unfoldable pub count_moved : ℕ → List (Option ℕ) → List ℕ → ℕ → ℕ
+count_moved period wanted times zero = 0
+count_moved period wanted times (suc n) = count_moved period wanted times n + some_move (move_at period wanted times n)
 
 -- the farthest move of the first events
 unfoldable pub farthest : ℕ → List (Option ℕ) → List ℕ → ℕ → ℕ

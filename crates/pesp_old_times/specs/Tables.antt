@@ -14,7 +14,7 @@ abbrev pub AreBare : {S : Type 0} → List ℤ → IndexMap ℤ (Option ℕ) S �
 AreBare events slots = (label : ℤ) → get int_eq slots label ≡ (if has events label then Some None else None)
 
 -- a table of these events and entries
-pub record Holds (events : List ℤ) (entries : List (ℤ × ℕ)) (table : Table) : Type 0 where
+pub record HoldsTimes (events : List ℤ) (entries : List (ℤ × ℕ)) (table : Table) : Type 0 where
   pub slots : (label : ℤ) → get int_eq table.slots label ≡ slot events entries label
   pub strays : table.strays ≡ count_by (is_stray events) entries
 

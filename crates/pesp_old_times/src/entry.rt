@@ -4,7 +4,7 @@ ghost use Rattle.std.specs.Prelude.{◌≡◌, ◌≤◌, ◌%◌};
 ghost use Rattle.pesp_report.specs.TimesText as times;
 ghost use Rattle.pesp_old_times.specs.OldTimes as spec;
 
-use pesp_text::{Words, natural, whole};
+use pesp_stream::{Words, natural, whole};
 
 /// Whether a line tells a time.
 pub(crate) fn names_a_time(line: &[u8]) -> bool
@@ -52,7 +52,7 @@ fn entry_of_words(period: u32, words: &mut Words<'_>) -> Option<(i64, u32)>
 /// The label of an event and its time, where a line tells them.
 pub(crate) fn entry_of(period: u32, line: &[u8]) -> Option<(i64, u32)>
     requires { 1 ≤ period }
-    ensures { result ≡ spec.entry_of period line.now }
+    ensures { result ≡ spec.line_entry period line.now }
 {
     let mut words = Words::new(without_cr(line));
     entry_of_words(period, &mut words)

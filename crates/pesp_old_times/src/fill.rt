@@ -1,6 +1,6 @@
 //! Times for the events that have none, from their neighbours.
 
-use crate::links::{Links, Seen, modulo};
+use crate::links::{ArcView, Links, modulo};
 use std::alloc::{AllocError, Global};
 
 /// Times where they are known by now, and the events that became known, in this order.
@@ -13,14 +13,14 @@ struct Filler<'a> {
 
 /// How bad a time is: how many arcs to known events it violates, and what the others cost.
 #[derive(Clone, Copy)]
-struct Worth {
+struct TimeCost {
     violated: u32,
     cost: u64,
 }
 
-impl Worth {
+impl TimeCost {
     /// Whether this is better than another.
-    fn is_better(&self, other: &Worth) -> bool {
+    fn is_better(&self, other: &TimeCost) -> bool {
         self.violated < other.violated
             || (self.violated == other.violated && self.cost < other.cost)
     }
@@ -33,7 +33,7 @@ impl<'a> Filler<'a> {
     }
 
     /// The slack that an arc has where the event at this end of it is at a time.
-    fn slack_at(&self, seen: &Seen, time: i64) -> Option<i64> {
+    fn slack_at(&self, seen: &ArcView, time: i64) -> Option<i64> {
         let other = self.time(seen.other)?;
         Some(if seen.from_tail {
             self.links.slack_between(&seen.arc, time, other)
@@ -43,7 +43,7 @@ impl<'a> Filler<'a> {
     }
 
     /// The time of an event at which an arc to a known event has a slack.
-    fn time_for(&self, seen: &Seen, slack: i64) -> Option<i64> {
+    fn time_for(&self, seen: &ArcView, slack: i64) -> Option<i64> {
         let other = self.time(seen.other)?;
         let length = seen.arc.lower.wrapping_add(slack);
         Some(modulo(
@@ -57,8 +57,8 @@ impl<'a> Filler<'a> {
     }
 
     /// How bad a time of an event is.
-    fn worth(&self, event: u32, time: i64) -> Worth {
-        let mut worth = Worth {
+    fn worth(&self, event: u32, time: i64) -> TimeCost {
+        let mut worth = TimeCost {
             violated: 0,
             cost: 0,
         };
@@ -88,10 +88,10 @@ impl<'a> Filler<'a> {
     fn better(
         &self,
         event: u32,
-        best: Option<(Worth, i64)>,
-        seen: &Seen,
+        best: Option<(TimeCost, i64)>,
+        seen: &ArcView,
         slack: i64,
-    ) -> Option<(Worth, i64)> {
+    ) -> Option<(TimeCost, i64)> {
         let Some(time) = self.time_for(seen, slack) else {
             return best;
         };

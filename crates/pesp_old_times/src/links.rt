@@ -18,7 +18,7 @@ pub(crate) struct Links {
 
 /// What an arc's end sees of it: the event at the other end, and whether that is the head.
 #[derive(Clone, Copy)]
-pub(crate) struct Seen {
+pub(crate) struct ArcView {
     pub(crate) arc: Arc,
     pub(crate) other: u32,
     pub(crate) from_tail: bool,
@@ -79,11 +79,11 @@ impl Links {
     }
 
     /// What an end sees.
-    pub(crate) fn seen(&self, end: u32) -> Option<Seen> {
+    pub(crate) fn seen(&self, end: u32) -> Option<ArcView> {
         let arc = self.arcs.get(end as usize / 2).copied()?;
         let from_tail = end % 2 == 0;
         let other = if from_tail { arc.head } else { arc.tail };
-        Some(Seen {
+        Some(ArcView {
             arc,
             other,
             from_tail,

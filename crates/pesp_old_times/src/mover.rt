@@ -1,6 +1,6 @@
 //! Times whose events are moved, so that what is satisfied stays so.
 
-use crate::links::{Links, Seen, modulo};
+use crate::links::{ArcView, Links, modulo};
 use crate::push::Push;
 use pesp_problem::Arc;
 use std::alloc::{AllocError, Global};
@@ -71,7 +71,7 @@ impl<'a> Mover<'a> {
     }
 
     /// How far an event may move until it drags along the one at the other end of an arc; None where the arc is violated.
-    fn give(&self, seen: &Seen, later: bool) -> Option<i64> {
+    fn give(&self, seen: &ArcView, later: bool) -> Option<i64> {
         let span = i64::from(seen.arc.span);
         let slack = self.links.slack(&seen.arc, &self.times)?;
         if slack > span {

@@ -12,7 +12,7 @@ pub struct Moves {
 
 /// How far two times of a period are from one another, by the shorter way round.
 fn distance(period: u32, from: u32, to: u32) -> u32
-    ensures { result ≡ spec.distance period from to }
+    ensures { result ≡ spec.circular_distance period from to }
 {
     let apart = from.abs_diff(to);
     apart.min(period.saturating_sub(apart))
@@ -39,7 +39,7 @@ fn some_move(by: u32) -> usize
 /// How far events have moved to these times from the wanted ones, where one is wanted of them.
 pub fn moves_of(period: u32, wanted: &[Option<u32>], times: &[u32]) -> Moves
     requires { length times.now ≡ length wanted.now }
-    ensures moved { result.moved ≡ spec.moved period wanted.now times.now (length wanted.now) }
+    ensures moved { result.moved ≡ spec.count_moved period wanted.now times.now (length wanted.now) }
     ensures most { result.most ≡ spec.farthest period wanted.now times.now (length wanted.now) }
 {
     let mut moved = 0usize;

@@ -3,14 +3,14 @@
 ghost use Rattle.std.specs.Prelude.{◌≡◌, ◌⊎◌, Err, IfOk, IfErr, ◌≤◌, sum_by};
 ghost use Rattle.csv.specs.Reading.{is_bom, strip_bom};
 ghost use Rattle.pesp_report.specs.declared.refusal.TimesRefusal.TheVariants.{Memory};
-ghost use Rattle.pesp_old_times.specs.OldTimes.{Tells, entries_of};
+ghost use Rattle.pesp_old_times.specs.OldTimes.{TellsTimes, entries_from_text};
 ghost use Rattle.pesp_old_times.specs.OldTimes as spec;
 
 use crate::entry::{entry_of, names_a_time};
 use crate::table::Table;
 use pesp_problem::Instance;
 use pesp_report::TimesRefusal;
-use pesp_text::Lines;
+use pesp_stream::Lines;
 use std::alloc::Global;
 
 /// What a text tells of the events of an instance: for each of them, in their order, its time below the period where one is told;
@@ -76,8 +76,8 @@ pub fn read_old_times(
     instance: &Instance,
     text: &[u8],
 ) -> Result<OldTimes, TimesRefusal>
-    ensures told { IfOk result (λ old. Tells instance.now text.now old.times.items old.missing old.strays) }
-    ensures refused { IfErr result (λ e. (e ≡ Memory) ⊎ (entries_of instance.now.period text.now ≡ Err e)) }
+    ensures told { IfOk result (λ old. TellsTimes instance.now text.now old.times.items old.missing old.strays) }
+    ensures refused { IfErr result (λ e. (e ≡ Memory) ⊎ (entries_from_text instance.now.period text.now ≡ Err e)) }
 {
     let period = instance.period();
     let events = instance.events();

@@ -1,7 +1,7 @@
 //! The times that were read so far.
 
 ghost use Rattle.std.specs.Prelude.{◌≡◌, ◌<◌, ◌++◌, ◌∷◌, [], ℤ, ℕ, List, map, IfOk, OnOk};
-ghost use Rattle.pesp_old_times.specs.Tables.{Holds};
+ghost use Rattle.pesp_old_times.specs.Tables.{HoldsTimes};
 ghost use Rattle.pesp_old_times.specs.Tables as spec;
 
 use indexmap::IndexMap;
@@ -34,7 +34,7 @@ impl Table {
         alloc: Global,
         events: &[i64],
     ) -> Result<Table, AllocFailed<(i64, Option<u32>)>>
-        ensures { IfOk result (Holds events.now []) }
+        ensures { IfOk result (HoldsTimes events.now []) }
     {
         let slots = slots_of(alloc, events)?;
         Ok(Table { slots, strays: 0 })
@@ -47,8 +47,8 @@ impl Table {
         time: u32,
     ) -> Result<(), AllocFailed<(i64, Option<u32>)>>
         requires { self.old.strays < u64.MAX }
-        ensures { (events : List ℤ) → (entries : List (ℤ × ℕ)) → Holds events entries self.old
-            → OnOk result (Holds events (entries ++ (label, time) ∷ []) self.new) }
+        ensures { (events : List ℤ) → (entries : List (ℤ × ℕ)) → HoldsTimes events entries self.old
+            → OnOk result (HoldsTimes events (entries ++ (label, time) ∷ []) self.new) }
     {
         if !self.slots.contains_key(&label) {
             self.strays += 1;

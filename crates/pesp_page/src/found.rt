@@ -7,12 +7,12 @@ use std::fmt;
 
 /// A part of a whole in per cent, rounded up to hundredths.
 #[derive(Clone, Copy)]
-struct PerCent {
+struct PartPerCent {
     part: u64,
     of: u64,
 }
 
-impl fmt::Display for PerCent {
+impl fmt::Display for PartPerCent {
     fn fmt<W: fmt::Write>(&self, f: &mut fmt::Formatter<W>) -> fmt::Result {
         let of = u128::from(self.of.max(1));
         let hundredths = u128::from(self.part)
@@ -41,7 +41,7 @@ fn write_claim(text: &mut String, claim: Claim, cost: u64) -> Result<(), AllocEr
 /// Writes what a bound means.
 fn write_bound(text: &mut String, bound: u64, cost: u64) -> Result<(), AllocError> {
     let gap = cost.saturating_sub(bound);
-    let share = PerCent {
+    let share = PartPerCent {
         part: gap,
         of: cost,
     };

@@ -9,14 +9,14 @@ use std::alloc::AllocError;
 
 /// Where the writing of the trains stands: the way that is open, its line, and the stop that isn't written yet.
 #[derive(Clone, Copy)]
-struct Open<'a> {
+struct OpenWay<'a> {
     way: u32,
     line: &'a str,
     stop: Option<Stop<'a>>,
 }
 
 /// Writes the stop that isn't written yet, if there is one.
-fn write_last(text: &mut String, open: Open<'_>) -> Result<(), AllocError> {
+fn write_last(text: &mut String, open: OpenWay<'_>) -> Result<(), AllocError> {
     match open.stop {
         Some(stop) => write_stop(text, stop),
         None => Ok(()),
@@ -24,7 +24,7 @@ fn write_last(text: &mut String, open: Open<'_>) -> Result<(), AllocError> {
 }
 
 /// Closes the table that is open, if one is.
-fn close_way(text: &mut String, open: Open<'_>) -> Result<(), AllocError> {
+fn close_way(text: &mut String, open: OpenWay<'_>) -> Result<(), AllocError> {
     if open.way == 0 {
         return Ok(());
     }
@@ -33,7 +33,7 @@ fn close_way(text: &mut String, open: Open<'_>) -> Result<(), AllocError> {
 }
 
 /// Writes the heading of a line, where it isn't the one that is open.
-fn write_heading(text: &mut String, open: Open<'_>, line: &str) -> Result<(), AllocError> {
+fn write_heading(text: &mut String, open: OpenWay<'_>, line: &str) -> Result<(), AllocError> {
     if open.line == line {
         return Ok(());
     }
@@ -44,16 +44,16 @@ fn write_heading(text: &mut String, open: Open<'_>, line: &str) -> Result<(), Al
 /// Writes an event that stands on a way.
 fn write_event<'a>(
     text: &mut String,
-    open: Open<'a>,
+    open: OpenWay<'a>,
     told: &'a Told,
     entry: &'a Entry,
-) -> Result<Open<'a>, AllocError> {
+) -> Result<OpenWay<'a>, AllocError> {
     let alone = Some(Stop::of(told, entry));
     if open.way != entry.way {
         close_way(text, open)?;
         write_heading(text, open, told.line.as_str())?;
         open_way(text, told, entry.way)?;
-        return Ok(Open {
+        return Ok(OpenWay {
             way: entry.way,
             line: told.line.as_str(),
             stop: alone,
@@ -64,13 +64,13 @@ fn write_event<'a>(
         None => None,
     };
     if joined.is_some() {
-        return Ok(Open {
+        return Ok(OpenWay {
             stop: joined,
             ..open
         });
     }
     write_last(text, open)?;
-    Ok(Open {
+    Ok(OpenWay {
         stop: alone,
         ..open
     })
@@ -91,7 +91,7 @@ fn write_ways<'a>(
     tolds: &'a [Told],
     entries: &'a [Entry],
 ) -> Result<(), AllocError> {
-    let mut open = Open {
+    let mut open = OpenWay {
         way: 0,
         line: "",
         stop: None,

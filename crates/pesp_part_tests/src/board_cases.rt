@@ -1,12 +1,12 @@
 //! A case of boards from its first line to its last.
 
 ghost use Rattle.std.specs.Prelude.{◌≡◌};
-ghost use Rattle.pesp_machine.specs.Certificates.{IsProblemOf};
+ghost use Rattle.pesp_tree.specs.Certificates.{IsProblemOf};
 
 use crate::board_given::board_of;
 use crate::changes::{adopt, change, spend};
 use crate::given::instance_of;
-use crate::lent::Lent;
+use crate::lent::LentJob;
 use crate::questions::{ask, certified, fault_of};
 use pesp_board::Board;
 use pesp_cases::{look_up, split_word, words_of};
@@ -45,7 +45,7 @@ fn play_on(
     alloc: Global,
     instance: &Instance,
     board: &mut Board,
-    lent: &mut Vec<Lent>,
+    lent: &mut Vec<LentJob>,
     lines: &[&str],
 ) -> Option<String>
     requires { IsProblemOf instance.now board.old.problem }
@@ -63,7 +63,7 @@ fn play_line(
     alloc: Global,
     instance: &Instance,
     board: &mut Board,
-    lent: &mut Vec<Lent>,
+    lent: &mut Vec<LentJob>,
     line: &str,
 ) -> Option<String>
     requires { IsProblemOf instance.now board.old.problem }
@@ -81,7 +81,7 @@ fn tell(
     alloc: Global,
     instance: &Instance,
     board: &mut Board,
-    lent: &mut Vec<Lent>,
+    lent: &mut Vec<LentJob>,
     line: &str,
 ) -> Option<String>
     requires { IsProblemOf instance.now board.old.problem }
@@ -117,7 +117,7 @@ fn answer_of(
     alloc: Global,
     instance: &Instance,
     board: &mut Board,
-    lent: &mut Vec<Lent>,
+    lent: &mut Vec<LentJob>,
     words: &[&str],
 ) -> Option<String>
     requires { IsProblemOf instance.now board.old.problem }
@@ -137,7 +137,7 @@ fn answer_to(
     alloc: Global,
     instance: &Instance,
     board: &mut Board,
-    lent: &mut Vec<Lent>,
+    lent: &mut Vec<LentJob>,
     line: &str,
 ) -> Option<String>
     requires { IsProblemOf instance.now board.old.problem }

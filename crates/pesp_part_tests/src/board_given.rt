@@ -1,7 +1,7 @@
 //! The board of a case.
 
 ghost use Rattle.std.specs.Prelude.{IfSome};
-ghost use Rattle.pesp_machine.specs.Certificates.{IsProblemOf};
+ghost use Rattle.pesp_tree.specs.Certificates.{IsProblemOf};
 
 use crate::given::table_of;
 use pesp_board::Board;

@@ -1,6 +1,6 @@
 //! Calls over texts, instances and certificates.
 
-use crate::answers::{Answer, right_if};
+use crate::answers::{CallAnswer, right_if};
 use crate::texts::{CERTIFICATE, INSTANCE, PERIOD, REPORT, certificate_of, instance_of};
 use pesp_cert::{CertRefusal, Certificate, parse};
 use pesp_check::{CheckFault, Verdict, check, check_text};
@@ -14,72 +14,72 @@ use std::alloc::Global;
 use std::io;
 use std::io::Write;
 
-pub(crate) fn try_read_instance(alloc: Global) -> Answer {
+pub(crate) fn try_read_instance(alloc: Global) -> CallAnswer {
     match read_instance(alloc, INSTANCE, PERIOD) {
         Ok(instance) => right_if(instance.rows().len() == 2 && instance.events().len() == 2),
-        Err(ReadRefusal::Memory) => Answer::Memory,
-        Err(_) => Answer::Wrong,
+        Err(ReadRefusal::Memory) => CallAnswer::Memory,
+        Err(_) => CallAnswer::Wrong,
     }
 }
 
-pub(crate) fn try_parse(alloc: Global) -> Answer {
+pub(crate) fn try_parse(alloc: Global) -> CallAnswer {
     match parse(alloc, CERTIFICATE) {
         Ok(certificate) => {
             right_if(certificate.answer() == Claim::Optimal(5) && certificate.tree().len() == 3)
         }
-        Err(CertRefusal::Memory) => Answer::Memory,
-        Err(_) => Answer::Wrong,
+        Err(CertRefusal::Memory) => CallAnswer::Memory,
+        Err(_) => CallAnswer::Wrong,
     }
 }
 
-fn check_on(alloc: Global, instance: &Instance, certificate: &Certificate) -> Answer {
+fn check_on(alloc: Global, instance: &Instance, certificate: &Certificate) -> CallAnswer {
     match check(alloc, instance, certificate) {
         Ok(verdict) => right_if(verdict == Verdict::Accepted),
-        Err(_) => Answer::Memory,
+        Err(_) => CallAnswer::Memory,
     }
 }
 
-fn check_parsed(alloc: Global, instance: &Instance) -> Answer {
+fn check_parsed(alloc: Global, instance: &Instance) -> CallAnswer {
     match certificate_of(alloc) {
         Some(certificate) => {
             let answer = check_on(alloc, instance, &certificate);
             drop(certificate);
             answer
         }
-        None => Answer::Memory,
+        None => CallAnswer::Memory,
     }
 }
 
-pub(crate) fn try_check(alloc: Global) -> Answer {
+pub(crate) fn try_check(alloc: Global) -> CallAnswer {
     match instance_of(alloc) {
         Some(instance) => {
             let answer = check_parsed(alloc, &instance);
             drop(instance);
             answer
         }
-        None => Answer::Memory,
+        None => CallAnswer::Memory,
     }
 }
 
-fn check_text_on(alloc: Global, instance: &Instance) -> Answer {
+fn check_text_on(alloc: Global, instance: &Instance) -> CallAnswer {
     let mut reader = Counted::new(CERTIFICATE);
     match check_text(alloc, instance, &mut reader) {
         Ok((verdict, claim)) => {
             right_if(verdict == Verdict::Accepted && claim == Claim::Optimal(5))
         }
-        Err(CheckFault::Memory) => Answer::Memory,
-        Err(_) => Answer::Wrong,
+        Err(CheckFault::Memory) => CallAnswer::Memory,
+        Err(_) => CallAnswer::Wrong,
     }
 }
 
-pub(crate) fn try_check_text(alloc: Global) -> Answer {
+pub(crate) fn try_check_text(alloc: Global) -> CallAnswer {
     match instance_of(alloc) {
         Some(instance) => {
             let answer = check_text_on(alloc, &instance);
             drop(instance);
             answer
         }
-        None => Answer::Memory,
+        None => CallAnswer::Memory,
     }
 }
 
@@ -107,7 +107,7 @@ impl Write for Comparing<'_> {
     }
 }
 
-fn report_on(alloc: Global, instance: &Instance) -> Answer {
+fn report_on(alloc: Global, instance: &Instance) -> CallAnswer {
     let mut writer = Counted::new(Comparing {
         rest: REPORT,
         same: true,
@@ -117,37 +117,37 @@ fn report_on(alloc: Global, instance: &Instance) -> Answer {
             let written = writer.into_inner();
             right_if(written.same && written.rest.is_empty())
         }
-        Err(ReportRefusal::Memory) => Answer::Memory,
-        Err(_) => Answer::Wrong,
+        Err(ReportRefusal::Memory) => CallAnswer::Memory,
+        Err(_) => CallAnswer::Wrong,
     }
 }
 
-pub(crate) fn try_report(alloc: Global) -> Answer {
+pub(crate) fn try_report(alloc: Global) -> CallAnswer {
     match instance_of(alloc) {
         Some(instance) => {
             let answer = report_on(alloc, &instance);
             drop(instance);
             answer
         }
-        None => Answer::Memory,
+        None => CallAnswer::Memory,
     }
 }
 
-fn solve_on(alloc: Global, instance: &Instance) -> Answer {
+fn solve_on(alloc: Global, instance: &Instance) -> CallAnswer {
     match solve(alloc, instance, 3) {
         Ok(solved) => right_if(solved.certificate.answer() == Claim::Optimal(5)),
-        Err(SolveRefusal::Memory) => Answer::Memory,
-        Err(_) => Answer::Wrong,
+        Err(SolveRefusal::Memory) => CallAnswer::Memory,
+        Err(_) => CallAnswer::Wrong,
     }
 }
 
-pub(crate) fn try_solve(alloc: Global) -> Answer {
+pub(crate) fn try_solve(alloc: Global) -> CallAnswer {
     match instance_of(alloc) {
         Some(instance) => {
             let answer = solve_on(alloc, &instance);
             drop(instance);
             answer
         }
-        None => Answer::Memory,
+        None => CallAnswer::Memory,
     }
 }

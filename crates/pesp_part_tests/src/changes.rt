@@ -1,9 +1,9 @@
 //! Events of a board.
 
 ghost use Rattle.std.specs.Prelude.{◌≡◌, IfSome};
-ghost use Rattle.pesp_machine.specs.Certificates.{IsProblemOf};
+ghost use Rattle.pesp_tree.specs.Certificates.{IsProblemOf};
 
-use crate::lent::{Lent, number_of};
+use crate::lent::{LentJob, number_of};
 use pesp_board::{Board, Job, Work};
 use pesp_cases::{cut_of, pairs_of, small, whole};
 use pesp_cert::TreeLine;
@@ -15,7 +15,7 @@ use std::mem::replace;
 pub(crate) fn change(
     alloc: Global,
     board: &mut Board,
-    lent: &mut Vec<Lent>,
+    lent: &mut Vec<LentJob>,
     words: &[&str],
 ) -> Option<String>
     ensures { board.new.problem ≡ board.old.problem }
@@ -30,7 +30,7 @@ pub(crate) fn change(
 }
 
 /// Recalls a job: whether it was lent.
-fn recall(alloc: Global, board: &mut Board, lent: &[Lent], words: &[&str]) -> Option<String>
+fn recall(alloc: Global, board: &mut Board, lent: &[LentJob], words: &[&str]) -> Option<String>
     ensures { board.new.problem ≡ board.old.problem }
 {
     let number = number_of(lent, words)?;
@@ -57,14 +57,14 @@ fn times_of(alloc: Global, words: &[&str]) -> Option<Vec<u32>> {
 }
 
 /// The number of a job, which is kept with its path.
-fn keep_job(alloc: Global, job: &Job, lent: &mut Vec<Lent>) -> Option<String> {
-    lent.push(Lent::of(alloc, job)?).ok()?;
+fn keep_job(alloc: Global, job: &Job, lent: &mut Vec<LentJob>) -> Option<String> {
+    lent.push(LentJob::of(alloc, job)?).ok()?;
     let number = job.number;
     format!(in alloc; "job {number}").ok()
 }
 
 /// Lends a leaf, and keeps its number and its path.
-fn lend(alloc: Global, board: &mut Board, lent: &mut Vec<Lent>) -> Option<String>
+fn lend(alloc: Global, board: &mut Board, lent: &mut Vec<LentJob>) -> Option<String>
     ensures { board.new.problem ≡ board.old.problem }
 {
     match board.lend(alloc) {
@@ -75,21 +75,21 @@ fn lend(alloc: Global, board: &mut Board, lent: &mut Vec<Lent>) -> Option<String
 }
 
 /// Tells of a job that is kept, behind a semicolon where it isn't the first.
-fn tell_kept(alloc: Global, told: &mut String, kept: &Lent) -> Option<()> {
+fn tell_kept(alloc: Global, told: &mut String, kept: &LentJob) -> Option<()> {
     let behind = if told.is_empty() { "" } else { "; " };
     let one = format!(in alloc; "{behind}job {} {}", kept.number, kept.path).ok()?;
     told.push_str(one.as_str()).ok()
 }
 
 /// Tells of a job, which is kept.
-fn tell_job(alloc: Global, told: &mut String, job: &Job, lent: &mut Vec<Lent>) -> Option<()> {
-    let kept = Lent::of(alloc, job)?;
+fn tell_job(alloc: Global, told: &mut String, job: &Job, lent: &mut Vec<LentJob>) -> Option<()> {
+    let kept = LentJob::of(alloc, job)?;
     tell_kept(alloc, told, &kept)?;
     lent.push(kept).ok()
 }
 
 /// The numbers and the paths of jobs, which are kept; `none` where there are none.
-fn keep_jobs(alloc: Global, jobs: &[Job], lent: &mut Vec<Lent>) -> Option<String> {
+fn keep_jobs(alloc: Global, jobs: &[Job], lent: &mut Vec<LentJob>) -> Option<String> {
     if jobs.is_empty() {
         return String::from_str(alloc, "none").ok();
     }
@@ -101,7 +101,7 @@ fn keep_jobs(alloc: Global, jobs: &[Job], lent: &mut Vec<Lent>) -> Option<String
 }
 
 /// Lends all open leaves, and keeps their numbers and their paths.
-fn lend_all(alloc: Global, board: &mut Board, lent: &mut Vec<Lent>) -> Option<String>
+fn lend_all(alloc: Global, board: &mut Board, lent: &mut Vec<LentJob>) -> Option<String>
     ensures { board.new.problem ≡ board.old.problem }
 {
     match board.lend_all(alloc) {
@@ -207,7 +207,7 @@ fn given(alloc: Global, board: &mut Board, number: u64, work: &Work) -> Option<S
 }
 
 /// Gives work for a job.
-fn give(alloc: Global, board: &mut Board, lent: &[Lent], words: &[&str]) -> Option<String>
+fn give(alloc: Global, board: &mut Board, lent: &[LentJob], words: &[&str]) -> Option<String>
     ensures { board.new.problem ≡ board.old.problem }
 {
     let number = number_of(lent, words)?;

@@ -4,12 +4,12 @@ use crate::given::network_of_rows;
 use pesp_cases::{small, spell_list, split_word, whole, words_of};
 use pesp_forest::Frame;
 use pesp_network::NetRow;
-use pesp_relaxation::{Basis, Ended, Slopes};
+use pesp_relaxation::{Basis, PivotEnd, Slopes};
 use std::alloc::Global;
 
 /// A row, what a unit of flow on it costs, and its flow.
 #[derive(Clone, Copy)]
-struct Line {
+struct CirculationRow {
     row: NetRow,
     slopes: Slopes,
     flow: i64,
@@ -37,8 +37,8 @@ fn row_of(words: &[&str]) -> Option<NetRow> {
 }
 
 /// The line of the words tail, head, weight, the costs below, between and above, and the flow.
-fn line_of(words: &[&str]) -> Option<Line> {
-    Some(Line {
+fn line_of(words: &[&str]) -> Option<CirculationRow> {
+    Some(CirculationRow {
         row: row_of(words)?,
         slopes: slopes_of(words)?,
         flow: whole(words, 6)?,
@@ -46,12 +46,12 @@ fn line_of(words: &[&str]) -> Option<Line> {
 }
 
 /// Adds the line of the words of a text.
-fn add_line(alloc: Global, found: &mut Vec<Line>, text: &str) -> Option<()> {
+fn add_line(alloc: Global, found: &mut Vec<CirculationRow>, text: &str) -> Option<()> {
     found.push(line_of(&words_of(alloc, text)?)?).ok()
 }
 
 /// The lines of a network.
-fn lines_of(alloc: Global, lines: &[&str]) -> Option<Vec<Line>> {
+fn lines_of(alloc: Global, lines: &[&str]) -> Option<Vec<CirculationRow>> {
     let mut found = Vec::new(alloc);
     for line in lines {
         let (word, rest) = split_word(line);
@@ -63,7 +63,7 @@ fn lines_of(alloc: Global, lines: &[&str]) -> Option<Vec<Line>> {
 }
 
 /// The frame of lines between three events.
-fn frame_of(alloc: Global, lines: &[Line]) -> Option<Frame> {
+fn frame_of(alloc: Global, lines: &[CirculationRow]) -> Option<Frame> {
     let rows = lines.iter().map(|line| line.row).collect(alloc).ok()?;
     let network = network_of_rows(alloc, rows, 3)?;
     let frame = Frame::new(alloc, &network);
@@ -72,7 +72,7 @@ fn frame_of(alloc: Global, lines: &[Line]) -> Option<Frame> {
 }
 
 /// The costs and the flows of lines.
-fn set_lines(basis: &mut Basis, lines: &[Line]) -> Option<()> {
+fn set_lines(basis: &mut Basis, lines: &[CirculationRow]) -> Option<()> {
     for (place, line) in lines.iter().enumerate() {
         let row = u32::try_from(place).ok()?;
         basis.set_slopes(row, line.slopes)?;
@@ -82,14 +82,14 @@ fn set_lines(basis: &mut Basis, lines: &[Line]) -> Option<()> {
 }
 
 /// Begins with the costs and the flows of lines, and with a tree.
-fn start(alloc: Global, frame: &Frame, lines: &[Line], basis: &mut Basis) -> Option<()> {
+fn start(alloc: Global, frame: &Frame, lines: &[CirculationRow], basis: &mut Basis) -> Option<()> {
     set_lines(basis, lines)?;
     let order: Vec<u32> = (0..u32::try_from(lines.len()).ok()?).collect(alloc).ok()?;
     basis.start(alloc, frame, &order).ok()?
 }
 
 /// The circulation of lines, with a tree.
-fn started(alloc: Global, frame: &Frame, lines: &[Line]) -> Option<Basis> {
+fn started(alloc: Global, frame: &Frame, lines: &[CirculationRow]) -> Option<Basis> {
     let mut basis = Basis::idle(alloc, frame).ok()?;
     match start(alloc, frame, lines, &mut basis) {
         Some(()) => Some(basis),
@@ -101,13 +101,13 @@ fn started(alloc: Global, frame: &Frame, lines: &[Line]) -> Option<Basis> {
 }
 
 /// The flows, or a closed way along which more flow costs less without end.
-fn spell_flows(alloc: Global, basis: &Basis, count: usize, ended: Ended) -> Option<String> {
+fn spell_flows(alloc: Global, basis: &Basis, count: usize, ended: PivotEnd) -> Option<String> {
     let mut flows = Vec::new(alloc);
     for place in 0..count {
         flows.push(basis.flow(u32::try_from(place).ok()?)?).ok()?;
     }
     let flows = spell_list(alloc, &flows)?;
-    let name = if ended == Ended::Endless {
+    let name = if ended == PivotEnd::Endless {
         "ray"
     } else {
         "flows"

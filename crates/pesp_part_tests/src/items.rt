@@ -1,6 +1,6 @@
 //! Items of a text, one after another.
 
-use crate::answers::{Answer, right_if};
+use crate::answers::{CallAnswer, right_if};
 use crate::texts::CERTIFICATE;
 use pesp_cert::CertRefusal;
 use pesp_cert_items::{ItemFault, Items};
@@ -20,15 +20,15 @@ fn count_items<S: Source>(items: &mut Items<S>) -> (u32, Option<ItemFault>) {
 }
 
 /// Right where so many items come, then this fault or none, and then no item but the same again.
-fn answers_of<S: Source>(items: &mut Items<S>, count: u32, fault: Option<ItemFault>) -> Answer {
+fn answers_of<S: Source>(items: &mut Items<S>, count: u32, fault: Option<ItemFault>) -> CallAnswer {
     let first = count_items(items);
     if first.1 == Some(ItemFault::Text(CertRefusal::Memory)) {
-        return Answer::Memory;
+        return CallAnswer::Memory;
     }
     right_if(first == (count, fault) && count_items(items) == (0, fault))
 }
 
-fn try_text(alloc: Global, text: &[u8], count: u32, fault: Option<ItemFault>) -> Answer {
+fn try_text(alloc: Global, text: &[u8], count: u32, fault: Option<ItemFault>) -> CallAnswer {
     let mut items = Items::new(alloc, Counted::new(text));
     let answer = answers_of(&mut items, count, fault);
     drop(items);
@@ -36,14 +36,14 @@ fn try_text(alloc: Global, text: &[u8], count: u32, fault: Option<ItemFault>) ->
 }
 
 /// All items of a certificate, and none behind them.
-pub(crate) fn try_items(alloc: Global) -> Answer {
+pub(crate) fn try_items(alloc: Global) -> CallAnswer {
     try_text(alloc, CERTIFICATE, 9, None)
 }
 
 /// The items of a text that ends before its last two lines.
-pub(crate) fn try_items_of_a_front(alloc: Global) -> Answer {
+pub(crate) fn try_items_of_a_front(alloc: Global) -> CallAnswer {
     let Some((front, _)) = CERTIFICATE.split_at_checked(90) else {
-        return Answer::Wrong;
+        return CallAnswer::Wrong;
     };
     try_text(
         alloc,

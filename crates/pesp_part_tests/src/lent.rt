@@ -7,14 +7,14 @@ use std::alloc::Global;
 
 /// A job that was lent: its number, and its path in words.
 #[derive(Drop)]
-pub(crate) struct Lent {
+pub(crate) struct LentJob {
     pub(crate) number: u64,
     pub(crate) path: String,
 }
 
-impl Lent {
-    pub(crate) fn of(alloc: Global, job: &Job) -> Option<Lent> {
-        Some(Lent {
+impl LentJob {
+    pub(crate) fn of(alloc: Global, job: &Job) -> Option<LentJob> {
+        Some(LentJob {
             number: job.number,
             path: spell_path(alloc, job)?,
         })
@@ -46,7 +46,7 @@ fn spell_path(alloc: Global, job: &Job) -> Option<String> {
 }
 
 /// The number that the second word names: itself, or `low` or `high` for the last job on this side of a branch.
-pub(crate) fn number_of(lent: &[Lent], words: &[&str]) -> Option<u64> {
+pub(crate) fn number_of(lent: &[LentJob], words: &[&str]) -> Option<u64> {
     let word = *words.get(1)?;
     if let Ok(number) = word.parse() {
         return Some(number);
@@ -61,7 +61,7 @@ pub(crate) fn number_of(lent: &[Lent], words: &[&str]) -> Option<u64> {
 }
 
 /// The path of a job.
-pub(crate) fn path_of<'a>(lent: &'a [Lent], number: u64) -> Option<&'a str> {
+pub(crate) fn path_of<'a>(lent: &'a [LentJob], number: u64) -> Option<&'a str> {
     for job in lent {
         if job.number == number {
             return Some(job.path.as_str());

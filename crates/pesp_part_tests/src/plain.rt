@@ -13,7 +13,7 @@ struct Sets {
 
 /// An end of a row: its event, and whether the row leads to it.
 #[derive(Clone, Copy)]
-struct End {
+struct RowEnd {
     event: u32,
     is_head: bool,
 }
@@ -38,7 +38,7 @@ impl Sets {
     }
 
     /// Whether a slack of the row leads from a difference of this end to a possible one of the other end.
-    fn is_supported(&self, row: &NetRow, end: End, difference: u32) -> bool {
+    fn is_supported(&self, row: &NetRow, end: RowEnd, difference: u32) -> bool {
         let other = if end.is_head { row.tail } else { row.head };
         for slack in 0..=row.span {
             let duration = row.lower.wrapping_add(i64::from(slack));
@@ -59,7 +59,7 @@ impl Sets {
     }
 
     /// Takes away what isn't supported at an end of a row; whether something was.
-    fn narrow(&mut self, row: &NetRow, end: End) -> bool {
+    fn narrow(&mut self, row: &NetRow, end: RowEnd) -> bool {
         let mut changed = false;
         for difference in 0..self.period {
             if self.has(end.event, difference) && !self.is_supported(row, end, difference) {
@@ -74,11 +74,11 @@ impl Sets {
     fn pass(&mut self, rows: &[NetRow]) -> bool {
         let mut changed = false;
         for row in rows {
-            let tail = End {
+            let tail = RowEnd {
                 event: row.tail,
                 is_head: false,
             };
-            let head = End {
+            let head = RowEnd {
                 event: row.head,
                 is_head: true,
             };

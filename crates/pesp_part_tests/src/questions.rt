@@ -1,8 +1,8 @@
 //! Questions to a board.
 
-ghost use Rattle.pesp_machine.specs.Certificates.{IsProblemOf};
+ghost use Rattle.pesp_tree.specs.Certificates.{IsProblemOf};
 
-use crate::lent::{Lent, number_of, path_of};
+use crate::lent::{LentJob, number_of, path_of};
 use pesp_board::Board;
 use pesp_cases::spell_pairs;
 use pesp_cert::{Certificate, print};
@@ -20,7 +20,12 @@ fn told(alloc: Global, value: Option<u64>) -> Option<String> {
 }
 
 /// A question and its answer: `best`, `least`, `open`, `problem`, `leaf JOB` or `path JOB`.
-pub(crate) fn ask(alloc: Global, board: &Board, lent: &[Lent], words: &[&str]) -> Option<String> {
+pub(crate) fn ask(
+    alloc: Global,
+    board: &Board,
+    lent: &[LentJob],
+    words: &[&str],
+) -> Option<String> {
     match *words.get(0)? {
         "best" => told(alloc, board.best()),
         "least" => told(alloc, board.least()),
@@ -40,7 +45,7 @@ fn size(alloc: Global, board: &Board) -> Option<String> {
 }
 
 /// The path of the job that the second word names.
-fn path(alloc: Global, lent: &[Lent], words: &[&str]) -> Option<String> {
+fn path(alloc: Global, lent: &[LentJob], words: &[&str]) -> Option<String> {
     String::from_str(alloc, path_of(lent, number_of(lent, words)?)?).ok()
 }
 

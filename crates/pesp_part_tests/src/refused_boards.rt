@@ -1,9 +1,9 @@
 //! A board before and after a refusal.
 
 ghost use Rattle.std.specs.Prelude.{◌≡◌};
-ghost use Rattle.pesp_machine.specs.Certificates.{IsProblemOf};
+ghost use Rattle.pesp_tree.specs.Certificates.{IsProblemOf};
 
-use crate::answers::{Answer, right_if};
+use crate::answers::{CallAnswer, right_if};
 use crate::board_given::board_of;
 use crate::texts::instance_of;
 use pesp_board::{Board, GiveRefusal, LendRefusal, Work};
@@ -14,7 +14,7 @@ use std::alloc::Global;
 
 /// What is seen of a board from outside.
 #[derive(Drop)]
-struct View {
+struct BoardView {
     least: Option<u64>,
     best: Option<u64>,
     text: Vec<u8>,
@@ -28,13 +28,13 @@ fn text_of(alloc: Global, certificate: &Certificate) -> Option<Vec<u8>> {
 }
 
 /// What is seen of the board, where memory lasts.
-fn view_of(alloc: Global, instance: &Instance, board: &Board) -> Option<View>
+fn view_of(alloc: Global, instance: &Instance, board: &Board) -> Option<BoardView>
     requires { IsProblemOf instance.now board.now.problem }
 {
     let certificate = board.certificate(alloc, instance).ok()?;
     let text = text_of(alloc, &certificate);
     drop(certificate);
-    Some(View {
+    Some(BoardView {
         least: board.least(),
         best: board.best(),
         text: text?,
@@ -42,7 +42,7 @@ fn view_of(alloc: Global, instance: &Instance, board: &Board) -> Option<View>
 }
 
 /// Whether the board looks as before.
-fn looks_as(alloc: Global, instance: &Instance, board: &Board, before: &View) -> bool
+fn looks_as(alloc: Global, instance: &Instance, board: &Board, before: &BoardView) -> bool
     requires { IsProblemOf instance.now board.now.problem }
 {
     match view_of(alloc, instance, board) {
@@ -71,37 +71,37 @@ fn lend_and_split(alloc: Global, board: &mut Board) -> Result<bool, Memory>
 }
 
 /// Right where the root is split; `Memory` where that is refused and the board looks as before.
-fn try_split(alloc: Global, instance: &Instance, board: &mut Board) -> Answer
+fn try_split(alloc: Global, instance: &Instance, board: &mut Board) -> CallAnswer
     requires { IsProblemOf instance.now board.old.problem }
 {
     let Some(before) = view_of(alloc, instance, board) else {
-        return Answer::Memory;
+        return CallAnswer::Memory;
     };
     match lend_and_split(alloc, board) {
         Ok(done) => right_if(done && board.least() == Some(0)),
-        Err(Memory) if looks_as(alloc, instance, board, &before) => Answer::Memory,
-        Err(Memory) => Answer::Wrong,
+        Err(Memory) if looks_as(alloc, instance, board, &before) => CallAnswer::Memory,
+        Err(Memory) => CallAnswer::Wrong,
     }
 }
 
-fn split_new(alloc: Global, instance: &Instance) -> Answer {
+fn split_new(alloc: Global, instance: &Instance) -> CallAnswer {
     match board_of(alloc, instance, &["cycle +1 -2"]) {
         Some(mut board) => {
             let answer = try_split(alloc, instance, &mut board);
             drop(board);
             answer
         }
-        None => Answer::Memory,
+        None => CallAnswer::Memory,
     }
 }
 
-pub(crate) fn try_board(alloc: Global) -> Answer {
+pub(crate) fn try_board(alloc: Global) -> CallAnswer {
     match instance_of(alloc) {
         Some(instance) => {
             let answer = split_new(alloc, &instance);
             drop(instance);
             answer
         }
-        None => Answer::Memory,
+        None => CallAnswer::Memory,
     }
 }

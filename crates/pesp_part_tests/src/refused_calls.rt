@@ -1,7 +1,7 @@
 //! Calls that may be refused for want of memory, a line for each: `right` where it answers what it should, `memory` where it is
 //! refused for that, and `wrong` else. `bench/refusals` tries them with each growth refused in turn.
 
-use crate::answers::{Answer, status_of, word_of};
+use crate::answers::{CallAnswer, status_of, word_of};
 use crate::calls::{
     try_check, try_check_text, try_parse, try_read_instance, try_report, try_solve,
 };
@@ -26,7 +26,7 @@ pub(crate) fn tell_calls<R: AllocGlobal + Print>(rt: &R) -> u8 {
 }
 
 /// Tells what became of a call.
-fn tell<R: Print>(rt: &R, name: &str, answer: Answer) -> Answer {
+fn tell<R: Print>(rt: &R, name: &str, answer: CallAnswer) -> CallAnswer {
     let _ = rt.print(name);
     let _ = rt.println(word_of(answer));
     answer

@@ -31,7 +31,7 @@ pub(crate) enum Task {
 /// The period, how often a task is done, and its own number: the tries of a dive, the rounds of an improvement or of a leaf,
 /// or the splits of a board.
 #[derive(Clone, Copy)]
-pub(crate) struct Numbers {
+pub(crate) struct TimingNumbers {
     pub(crate) period: u32,
     pub(crate) times: u32,
     pub(crate) own: u32,
@@ -158,8 +158,13 @@ fn last_figure(
 
 /// Reads an instance and does a task over it so many times, with the task's own number: the figure that came out of the
 /// last.
-pub(crate) fn measure(alloc: Global, task: Task, text: &[u8], numbers: Numbers) -> Option<u64> {
-    let Numbers { period, times, own } = numbers;
+pub(crate) fn measure(
+    alloc: Global,
+    task: Task,
+    text: &[u8],
+    numbers: TimingNumbers,
+) -> Option<u64> {
+    let TimingNumbers { period, times, own } = numbers;
     let instance = read_instance(alloc, text, period).ok()?;
     let figure = last_figure(alloc, task, own, &instance, times);
     drop(instance);

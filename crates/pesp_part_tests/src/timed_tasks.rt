@@ -2,7 +2,7 @@
 
 use crate::given::{period_of, text_of};
 use crate::timed_certificates::{parse_again, print_again};
-use crate::timed_networks::{Numbers, measure, task_of};
+use crate::timed_networks::{TimingNumbers, measure, task_of};
 use pesp_cases::small;
 use pesp_stream::{Counted, read_all};
 use std::alloc::Global;
@@ -16,8 +16,8 @@ fn number(words: &[String], place: usize) -> Option<u32> {
 }
 
 /// The numbers behind the task's word.
-fn numbers_of(words: &[String]) -> Option<Numbers> {
-    Some(Numbers {
+fn numbers_of(words: &[String]) -> Option<TimingNumbers> {
+    Some(TimingNumbers {
         period: number(words, 2)?,
         times: number(words, 3)?,
         own: number(words, 4)?,
@@ -25,7 +25,7 @@ fn numbers_of(words: &[String]) -> Option<Numbers> {
 }
 
 /// What comes out of the task of a word.
-fn figure(alloc: Global, word: &str, text: &[u8], numbers: Numbers) -> Option<u64> {
+fn figure(alloc: Global, word: &str, text: &[u8], numbers: TimingNumbers) -> Option<u64> {
     match word {
         "parse" => parse_again(alloc, text, numbers.times),
         "print" => print_again(alloc, text, numbers.times),
@@ -34,7 +34,11 @@ fn figure(alloc: Global, word: &str, text: &[u8], numbers: Numbers) -> Option<u6
 }
 
 /// Does the task of a word over the text on standard input, and prints what comes out.
-fn run_task<R: AllocGlobal + Input + Print>(rt: &R, word: &str, numbers: Numbers) -> Option<()> {
+fn run_task<R: AllocGlobal + Input + Print>(
+    rt: &R,
+    word: &str,
+    numbers: TimingNumbers,
+) -> Option<()> {
     let text = read_all(rt.alloc(), &mut Counted::new(rt.reader()), MOST).ok()?;
     let figure = figure(rt.alloc(), word, &text, numbers)?;
     rt.println(&figure).ok()
@@ -49,7 +53,7 @@ pub(crate) fn run_words<R: AllocGlobal + Input + Print>(rt: &R, words: &[String]
 /// task's own number.
 pub(crate) fn ask_figure(alloc: Global, lines: &[&str], words: &[&str]) -> Option<String> {
     let text = text_of(alloc, lines, "activity")?;
-    let numbers = Numbers {
+    let numbers = TimingNumbers {
         period: period_of(alloc, lines)?,
         times: small(words, 2)?,
         own: small(words, 3)?,

@@ -1,22 +1,22 @@
 //! Events that are joined to parts of at most so many events.
 
-use pesp_search_tools::Groups;
-use pesp_search_tools::guarded::{number, set_number};
+use pesp_forest::Groups;
+use pesp_forest::guarded::{number, set_number};
 use std::alloc::{AllocError, Global};
 
 /// Events in parts, and how many events each part has, by its last event.
 #[derive(Drop)]
-pub(crate) struct Parts {
+pub(crate) struct EventParts {
     groups: Groups,
     sizes: Vec<u32>,
     ends: Vec<u32>,
     most: u32,
 }
 
-impl Parts {
+impl EventParts {
     /// Each event is a part, and a part has at most so many.
-    pub(crate) fn apart(alloc: Global, events: u32, most: u32) -> Result<Parts, AllocError> {
-        Ok(Parts {
+    pub(crate) fn apart(alloc: Global, events: u32, most: u32) -> Result<EventParts, AllocError> {
+        Ok(EventParts {
             groups: Groups::apart(alloc, events)?,
             sizes: vec![in alloc; 1u32; events as usize]?,
             ends: Vec::new(alloc),
@@ -25,9 +25,13 @@ impl Parts {
     }
 
     /// Events in parts that labels tell.
-    pub(crate) fn labelled(alloc: Global, labels: &[u32], most: u32) -> Result<Parts, AllocError> {
+    pub(crate) fn labelled(
+        alloc: Global,
+        labels: &[u32],
+        most: u32,
+    ) -> Result<EventParts, AllocError> {
         let events = u32::try_from(labels.len()).unwrap_or(u32::MAX);
-        let mut parts = Parts::apart(alloc, events, events)?;
+        let mut parts = EventParts::apart(alloc, events, events)?;
         for event in 0..events {
             let label = number(labels, event).unwrap_or(event);
             parts.join(&[event, label])?;

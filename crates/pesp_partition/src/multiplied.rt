@@ -3,7 +3,7 @@
 use pesp_forest::Frame;
 use pesp_inequalities::{Inequality, Pass};
 use pesp_network::Network;
-use pesp_sharpening::{Leaf, Line, Sharpened};
+use pesp_sharpening::{LeafMultipliers, SharpLine, Sharpened};
 use std::alloc::{AllocError, Global};
 
 /// An inequality of a root, by its number among the walks that are told. The multiplier is in units of the root's scale. The gain
@@ -63,9 +63,9 @@ fn events_of(alloc: Global, frame: &Frame, passes: &[Pass]) -> Result<Vec<u32>, 
 }
 
 /// The leaf of a tree that is one bound leaf.
-fn leaf_of(root: &Sharpened) -> Option<&Leaf> {
+fn leaf_of(root: &Sharpened) -> Option<&LeafMultipliers> {
     match root.lines.first() {
-        Some(Line::Bound(leaf)) => Some(leaf),
+        Some(SharpLine::Bound(leaf)) => Some(leaf),
         _ => None,
     }
 }

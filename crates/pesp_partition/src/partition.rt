@@ -1,9 +1,9 @@
 //! Partitions of the events, in which inequalities of great share are inside one part.
 
-use crate::joining::Parts;
+use crate::joining::EventParts;
 use crate::multiplied::Multiplied;
+use pesp_forest::Random;
 use pesp_network::NetRow;
-use pesp_search_tools::Random;
 use std::alloc::{AllocError, Global};
 use std::cmp::Reverse;
 
@@ -52,7 +52,7 @@ fn order_of(
 }
 
 /// Joins along inequalities in this order.
-fn join_along(joined: Joined<'_>, parts: &mut Parts, order: &[u32]) -> Result<(), AllocError> {
+fn join_along(joined: Joined<'_>, parts: &mut EventParts, order: &[u32]) -> Result<(), AllocError> {
     for place in order {
         if let Some(inequality) = joined.inequalities.get(*place as usize) {
             parts.join(&inequality.events)?;
@@ -62,7 +62,7 @@ fn join_along(joined: Joined<'_>, parts: &mut Parts, order: &[u32]) -> Result<()
 }
 
 /// Joins along rows.
-fn join_rows(joined: Joined<'_>, parts: &mut Parts) -> Result<(), AllocError> {
+fn join_rows(joined: Joined<'_>, parts: &mut EventParts) -> Result<(), AllocError> {
     for row in joined.rows {
         parts.join(&[row.tail, row.head])?;
     }
@@ -70,7 +70,7 @@ fn join_rows(joined: Joined<'_>, parts: &mut Parts) -> Result<(), AllocError> {
 }
 
 /// The shares of inequalities inside one part.
-fn inside_of(joined: Joined<'_>, parts: &mut Parts) -> u128 {
+fn inside_of(joined: Joined<'_>, parts: &mut EventParts) -> u128 {
     let mut sum = 0u128;
     for inequality in joined.inequalities {
         if parts.has_all(&inequality.events) {
@@ -88,7 +88,7 @@ fn partition_by(
     noise: u64,
 ) -> Result<Partition, AllocError> {
     let order = order_of(alloc, joined, random, noise)?;
-    let mut parts = Parts::labelled(alloc, joined.labels, joined.most)?;
+    let mut parts = EventParts::labelled(alloc, joined.labels, joined.most)?;
     join_along(joined, &mut parts, &order)?;
     join_along(joined, &mut parts, &order)?;
     join_rows(joined, &mut parts)?;

@@ -5,7 +5,7 @@ use Rattle.pesp_problem.specs.Timetables.{Pesp}
 use Rattle.pesp_truth.specs.declared.answer.Answer.{Answer}
 use Rattle.pesp_truth.specs.Truth.{IsTrueAnswer}
 use Rattle.pesp_truth.specs.Certificates.{shown_times, least_of, cost_of}
-use Rattle.pesp_machine.specs.States.{IsAtMost}
+use Rattle.pesp_tree.specs.States.{IsAtMost}
 use Rattle.pesp_cert.specs.Fronted.{Fronted, IsFrontedText, fronted_text}
 use Rattle.pesp_search.specs.Solving.{CostsNoMore}
 use Rattle.pesp_sharp_search.specs.Solving.{IsNoWorse}

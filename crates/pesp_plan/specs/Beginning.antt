@@ -2,8 +2,8 @@
 use Rattle.std.specs.Prelude.{◌≡◌, ◌≢◌, ◌⊎◌, ℕ, List, [], Option, Some, None, Ok, Err}
 use Rattle.std.specs.Global.{Vec}
 use Rattle.pesp_problem.specs.Timetables.{Pesp, IsTimetable}
-use Rattle.pesp_report.specs.TimesText.{times_of}
-use Rattle.pesp_old_times.specs.OldTimes.{entries_of}
+use Rattle.pesp_report.specs.TimesText.{times_from_text}
+use Rattle.pesp_old_times.specs.OldTimes.{entries_from_text}
 use Rattle.pesp_cert_lines.specs.declared.versions.Versions.TheVariants.{All}
 use Rattle.pesp_cert.specs.Fronted.{Fronted, IsFrontedText}
 use Rattle.pesp_cert.specs.Refusals.{items_of_text}
@@ -19,16 +19,16 @@ use Rattle.pesp_runs.specs.Bases.{IsSharpBase}
 -- timetable
 pub record BeginsWith (p : Pesp) (text times : List ℕ) : Type 0 where
   pub sound : (times ≡ []) ⊎ IsTimetable p times
-  pub kept : (told : List ℕ) → times_of p text ≡ Ok told → IsTimetable p told → times ≡ told
+  pub kept : (told : List ℕ) → times_from_text p text ≡ Ok told → IsTimetable p told → times ≡ told
 
 -- the times that a text tells the events in their order, where they are a timetable
 abbrev pub TellsTimetable : Pesp → List ℕ → Option (Vec ℕ) → Type 0
-TellsTimetable p text (Some times) = (times_of p text ≡ Ok times.items) × IsTimetable p times.items
-TellsTimetable p text None = (told : List ℕ) → times_of p text ≡ Ok told → IsTimetable p told → ⊥
+TellsTimetable p text (Some times) = (times_from_text p text ≡ Ok times.items) × IsTimetable p times.items
+TellsTimetable p text None = (told : List ℕ) → times_from_text p text ≡ Ok told → IsTimetable p told → ⊥
 
 -- why a text gives nothing to begin with: a `time` line
 abbrev pub RefusesOld : Fault → Pesp → List ℕ → Type 0
-RefusesOld (Times refusal) p text = entries_of p.period text ≡ Err refusal
+RefusesOld (Times refusal) p text = entries_from_text p.period text ≡ Err refusal
 RefusesOld Memory p text = Unit {0}
 RefusesOld fault p text = ⊥
 
@@ -45,7 +45,7 @@ FromOld Holds told left told_times left_times period =
 
 -- why there are no times to begin with: a `time` line of the text, or the reader's device
 abbrev pub OldCause : Fault → Device → Pesp → Type 0
-OldCause (Times refusal) reader p = ReadsNext reader.old reader.new (λ text. entries_of p.period text ≡ Err refusal)
+OldCause (Times refusal) reader p = ReadsNext reader.old reader.new (λ text. entries_from_text p.period text ≡ Err refusal)
 OldCause Memory reader p = Unit {0}
 OldCause Read reader p = HasFailed reader
 OldCause fault reader p = ⊥
@@ -82,7 +82,7 @@ abbrev pub StandingCause : Fault → Device → Pesp → Type 0
 StandingCause (Certificate refusal) reader p = ReadsNext reader.old reader.new (λ text. items_of_text All text ≡ Err refusal)
 StandingCause (Base OtherPeriod) reader p =
     ReadsNext reader.old reader.new (λ text. IsOf text (λ base. base.content.period ≢ p.period))
-StandingCause (Times refusal) reader p = ReadsNext reader.old reader.new (λ text. entries_of p.period text ≡ Err refusal)
+StandingCause (Times refusal) reader p = ReadsNext reader.old reader.new (λ text. entries_from_text p.period text ≡ Err refusal)
 StandingCause Memory reader p = Unit {0}
 StandingCause Read reader p = HasFailed reader
 StandingCause fault reader p = ⊥

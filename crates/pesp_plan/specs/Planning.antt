@@ -40,8 +40,8 @@ pub record KeepsPlan (p : Pesp) (times : List ℕ) (stands : Option Answer) : Ty
   pub kept : IsAsGood stands certificate.content.answer
 
 -- a plan from such times is kept, as this stands, and nothing is written
-abbrev pub Keeps : Pesp → List ℕ → Option Answer → (List ℕ → Type 0) → Type 0
-Keeps p times stands Gets = KeepsPlan p times stands × Gets []
+abbrev pub KeepsAndWrites : Pesp → List ℕ → Option Answer → (List ℕ → Type 0) → Type 0
+KeepsAndWrites p times stands Gets = KeepsPlan p times stands × Gets []
 
 -- what this stands for is no worse than the base, and nothing is written
 abbrev pub KeepsOn : Fronted → Option Answer → (List ℕ → Type 0) → Type 0
@@ -49,7 +49,7 @@ KeepsOn base stands Gets = StandsNoWorse stands base.content.answer × Gets []
 
 -- the same of whatever stands
 abbrev pub KeepsSome : Pesp → List ℕ → (List ℕ → Type 0) → Type 0
-KeepsSome p times Gets = (stands : Option Answer) × Keeps p times stands Gets
+KeepsSome p times Gets = (stands : Option Answer) × KeepsAndWrites p times stands Gets
 
 -- something stands that is no worse than the base, and nothing is written
 abbrev pub KeepsSomeOn : Fronted → (List ℕ → Type 0) → Type 0

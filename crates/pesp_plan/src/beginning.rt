@@ -4,7 +4,7 @@ ghost use Rattle.std.specs.Prelude.{◌≡◌, ◌↔◌, IsTrue, IfOk, IfErr, I
 ghost use Rattle.pesp_problem.specs.Timetables.{AreTimes, IsTimetable};
 ghost use Rattle.pesp_plan.specs.Beginning.{BeginsWith, RefusesOld, TellsTimetable};
 
-use crate::listener::{Listener, Told};
+use crate::listener::{Listener, ToldOldTimes};
 use pesp_old_times::{OldTimes, count_violated, moves_of, read_old_times, repaired};
 use pesp_problem::{Instance, Memory, Score, score};
 use pesp_report::{TimesRefusal, read_times};
@@ -50,7 +50,7 @@ fn told_of(
     instance: &Instance,
     old: &OldTimes,
     found: &Option<Vec<u32>>,
-) -> Result<Told, Memory>
+) -> Result<ToldOldTimes, Memory>
     requires same { length old.now.times.items ≡ length instance.now.events }
     requires found { IfSome found.now (λ times. IsTimetable instance.now times.items) }
 {
@@ -59,7 +59,7 @@ fn told_of(
         Some(times) => Some(moves_of(instance.period(), &old.times, times)),
         None => None,
     };
-    Ok(Told {
+    Ok(ToldOldTimes {
         events: instance.events().len(),
         missing: old.missing,
         strays: old.strays,

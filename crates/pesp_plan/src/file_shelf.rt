@@ -4,7 +4,7 @@ ghost use Rattle.std.specs.Prelude.{◌≡◌, None, IfOk};
 
 use crate::Shelf;
 use crate::lockable::Lockable;
-use crate::names::Names;
+use crate::names::FileNames;
 use crate::refusal::ShelfRefusal;
 use pesp_cert::{Fronted, print_fronted};
 use pesp_problem::Instance;
@@ -20,7 +20,7 @@ use std::{fs, io};
 #[derive(Drop)]
 pub struct FileShelf<'a, R: Files> {
     rt: &'a R,
-    names: Names,
+    names: FileNames,
     /// It is had for itself as long as it is open.
     _lock: R::File,
     /// The answer of the certificate that stands there, where one does.
@@ -62,7 +62,7 @@ where
     pub fn open(rt: &'a R, file: &str) -> Result<FileShelf<'a, R>, ShelfRefusal>
         ensures { IfOk result (λ shelf. shelf.standing ≡ None) }
     {
-        let names = Names::of(rt, file)?;
+        let names = FileNames::of(rt, file)?;
         let lock = taken(rt, names.lock.as_str())?;
         Ok(FileShelf {
             rt,
@@ -91,7 +91,7 @@ impl<R: Files> FileShelf<'_, R> {
 
     /// Writes the text of a certificate beside the file, and puts it in its place.
     fn replace(&self, certificate: &Fronted) -> io::Result<()> {
-        let Names { file, next, .. } = &self.names;
+        let FileNames { file, next, .. } = &self.names;
         let (file, next) = (file.as_str(), next.as_str());
         write_durably(self.rt, next, certificate)?;
         fs::rename(self.rt, next, file)

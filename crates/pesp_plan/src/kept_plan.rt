@@ -56,12 +56,12 @@ impl<H: Shelf, F: Sharpener, K: Overseer> KeptPlan<H, F, K> {
 impl<H: Shelf, F: Sharpener, K: Overseer> Search for KeptPlan<H, F, K> {
     ghost use Rattle.std.specs.Prelude.{◌≡◌, None, ⊤};
     ghost use Rattle.pesp_tasks.specs.Solving.{SolutionStops};
-    ghost use Rattle.pesp_plan.specs.Planning.{Keeps};
+    ghost use Rattle.pesp_plan.specs.Planning.{KeepsAndWrites};
 
     // Nothing stands on the shelf yet.
     ghost within = { λ s. H.holds s.shelf ≡ None };
 
-    ghost writes = { λ _ s p times Gets. Keeps p times (H.holds s.shelf) Gets };
+    ghost writes = { λ _ s p times Gets. KeepsAndWrites p times (H.holds s.shelf) Gets };
 
     ghost stops = { λ _ p times fault cut. SolutionStops fault p 0 ⊤ };
 

@@ -23,7 +23,7 @@ mod shelf;
 pub use file_shelf::FileShelf;
 pub use from_old::run_from_old;
 pub use kept_plan::KeptPlan;
-pub use listener::{Listener, Told};
+pub use listener::{Listener, ToldOldTimes};
 pub use lockable::Lockable;
 pub use on_standing::run_on_standing;
 pub use overseer::Overseer;

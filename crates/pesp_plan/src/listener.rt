@@ -4,7 +4,7 @@ use pesp_old_times::Moves;
 
 /// What became of old times. No promise speaks of it but that it is counted.
 #[derive(Clone, Copy, PartialEq, Eq)]
-pub struct Told {
+pub struct ToldOldTimes {
     /// How many events there are.
     pub events: usize,
     /// How many of them have no time.
@@ -20,7 +20,7 @@ pub struct Told {
 /// Somebody who is told what became of old times.
 pub trait Listener {
     /// Called once they are read and repaired.
-    fn hears(&mut self, told: Told);
+    fn hears(&mut self, told: ToldOldTimes);
 
     /// Called where they are those of a certificate of other activities.
     fn finds_others(&mut self);

@@ -6,7 +6,7 @@ ghost use Rattle.pesp_stream.specs.Counts.{FewerThan};
 ghost use Rattle.pesp_check_run.specs.Devices.{over};
 ghost use Rattle.pesp_runs.specs.Causes.{OutCause};
 ghost use Rattle.pesp_tasks.specs.Solving.{SolutionStops};
-ghost use Rattle.pesp_plan.specs.Planning.{Keeps, KeepsOn};
+ghost use Rattle.pesp_plan.specs.Planning.{KeepsAndWrites, KeepsOn};
 ghost use Rattle.pesp_plan.specs.Beginning.{FromStanding, FromStandingCause};
 
 use crate::beginning::begin_with;
@@ -56,7 +56,7 @@ pub fn run_on_standing<
     requires writes_fit { FewerThan (2 ^ 62) (W.calls writer.old) }
     ensures ok { OnOk result (FromStanding
         (λ p base. KeepsOn base (H.holds plan.new.shelf) (Appends (W.contents writer.old) (W.contents writer.new)))
-        (λ p times. Keeps p times (H.holds plan.new.shelf) (Appends (W.contents writer.old) (W.contents writer.new)))
+        (λ p times. KeepsAndWrites p times (H.holds plan.new.shelf) (Appends (W.contents writer.old) (W.contents writer.new)))
         (R.remaining instance_reader.old) (R.remaining instance_reader.new)
         (B.remaining base_reader.old) (B.remaining base_reader.new) period) }
     ensures cause { IfErr result (λ fault. FromStandingCause

@@ -18,3 +18,17 @@ pub mod Remainders
 pub mod Differences
 pub mod Supporting
 pub mod Words
+pub mod Counts
+pub mod Durations
+pub mod Walking
+pub mod LeafValues
+pub mod Rests
+pub mod Gains
+pub mod Straight
+pub mod Values
+pub mod Ends
+pub mod WorkedMarks
+pub mod Along
+pub mod Passes
+pub mod Small
+pub mod RowValues

@@ -12,3 +12,10 @@ pub mod Roots
 pub mod Families
 pub mod Words
 pub mod Scores
+pub mod Nets
+pub mod Ranges
+pub mod Pending
+pub mod Marked
+pub mod Sharp
+pub mod Rates
+pub mod Terms

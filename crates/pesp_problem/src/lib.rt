@@ -1,17 +1,28 @@
 //! The periodic event scheduling problem: its words, its definitions, and what times are worth.
+//!
+//! Walks: the net counts of a walk along rows, the path of a walk over the nodes of a tree, what a marked walk gains at a
+//! node by the cycle inequality, and what a leaf is worth that marked walks sharpen. The checker and the solver's nodes are
+//! told by the same types, definitions and lemmas, and each has bodies of its own.
 #![tactic(auto)]
 
 mod arc;
+mod bases;
 mod cut;
 pub mod exact;
 mod grade;
 mod instance;
 pub mod laws;
 mod limits;
+mod marked;
 mod memory;
+pub mod net_laws;
 pub mod net_times;
+mod nets;
 mod pair;
+mod path;
+mod rates;
 mod row;
+mod rows;
 mod walk;
 mod worth;
 
@@ -24,8 +35,13 @@ pub use limits::{
     MOST_OFFSET, MOST_PAIRS, MOST_PERIOD, MOST_ROWS, MOST_SCALE, MOST_SIGNED_ROWS, MOST_SLACK,
     MOST_STEPS, MOST_TEXT, MOST_TIME, MOST_WEIGHT,
 };
+pub use marked::{MarkedRow, MarkedWalk};
 pub use memory::Memory;
+pub use nets::{NetCount, Nets};
 pub use pair::{Pair, Pairs};
+pub use path::{Branch, Change};
+pub use rates::{Rates, add_walk, clear, no_rates};
 pub use row::{Row, SignedRow};
+pub use rows::rows_sum;
 pub use walk::Walk;
 pub use worth::{score, slack_of};

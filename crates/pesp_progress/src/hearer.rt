@@ -1,7 +1,7 @@
 //! What became of old times, told in words.
 
 use pesp_old_times::Moves;
-use pesp_plan::{Listener, Told};
+use pesp_plan::{Listener, ToldOldTimes};
 use std::fmt;
 
 /// Tells on standard error what became of old times, unless nothing is told.
@@ -73,8 +73,8 @@ impl<'a, R: Eprint> Hearer<'a, R> {
 }
 
 impl<R: Eprint> Listener for Hearer<'_, R> {
-    fn hears(&mut self, told: Told) {
-        let Told {
+    fn hears(&mut self, told: ToldOldTimes) {
+        let ToldOldTimes {
             events,
             missing,
             strays,

@@ -12,5 +12,5 @@ mod watch;
 pub use hearer::Hearer;
 pub use plan_words::Again;
 pub use planner::Planner;
-pub use progress::{Milestones, Progress, Teller};
+pub use progress::{Milestones, SearchProgress, Teller};
 pub use watch::Watch;

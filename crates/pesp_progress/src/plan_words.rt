@@ -1,6 +1,6 @@
 //! What is told of a plan, in words.
 
-use crate::progress::Progress;
+use crate::progress::SearchProgress;
 use crate::shell_word::ShellWord;
 use pesp_truth::Answer;
 use std::fmt;
@@ -35,9 +35,9 @@ impl fmt::Display for Sizes {
 
 /// How far a plan is after so many seconds, where a clock could be read.
 #[derive(Clone, Copy, Drop)]
-pub(crate) struct Stage {
+pub(crate) struct PlanStage {
     pub(crate) seconds: Option<u64>,
-    pub(crate) progress: Progress,
+    pub(crate) progress: SearchProgress,
 }
 
 /// The cost by now, or that there is no timetable yet.
@@ -64,9 +64,9 @@ impl fmt::Display for PerCent {
     }
 }
 
-impl fmt::Display for Stage {
+impl fmt::Display for PlanStage {
     fn fmt<W: fmt::Write>(&self, f: &mut fmt::Formatter<W>) -> fmt::Result {
-        let Stage { seconds, progress } = *self;
+        let PlanStage { seconds, progress } = *self;
         if let Some(seconds) = seconds {
             write!(f, "{seconds} s, ")?;
         }
@@ -111,7 +111,7 @@ impl fmt::Display for Again<'_> {
 
 /// How a plan ended, with the words that go on with it.
 #[derive(Clone, Copy, Drop)]
-pub(crate) struct Outcome<'a> {
+pub(crate) struct PlanOutcome<'a> {
     pub(crate) answer: Answer,
     pub(crate) again: Again<'a>,
 }
@@ -125,14 +125,14 @@ fn excess(bound: u64, cost: u64) -> Option<u64> {
 
 /// The cost that a timetable has, and how good that is.
 #[derive(Clone, Copy, Drop)]
-struct Shown {
+struct ShownCost {
     bound: u64,
     cost: u64,
 }
 
-impl fmt::Display for Shown {
+impl fmt::Display for ShownCost {
     fn fmt<W: fmt::Write>(&self, f: &mut fmt::Formatter<W>) -> fmt::Result {
-        let Shown { bound, cost } = *self;
+        let ShownCost { bound, cost } = *self;
         match excess(bound, cost) {
             Some(excess) => {
                 let most = PerCent(excess);
@@ -143,7 +143,7 @@ impl fmt::Display for Shown {
     }
 }
 
-impl fmt::Display for Outcome<'_> {
+impl fmt::Display for PlanOutcome<'_> {
     fn fmt<W: fmt::Write>(&self, f: &mut fmt::Formatter<W>) -> fmt::Result {
         let again = self.again;
         match self.answer {
@@ -155,7 +155,7 @@ impl fmt::Display for Outcome<'_> {
                 least,
                 cost: Some(cost),
             } => {
-                let shown = Shown { bound: least, cost };
+                let shown = ShownCost { bound: least, cost };
                 write!(f, "{shown}; go on: {again}")
             }
             Answer::Bounded { least, cost: None } => {

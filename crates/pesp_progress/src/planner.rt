@@ -3,14 +3,14 @@
 ghost use Rattle.std.specs.Prelude.{◌≡◌, ◌↔◌, Some, IsTrue};
 ghost use Rattle.pesp_progress.specs.Looks.{AreOver};
 
-use crate::plan_words::{Again, Outcome, Sizes, Stage};
-use crate::progress::{Progress, SECONDS, words_of};
+use crate::plan_words::{Again, PlanOutcome, PlanStage, Sizes};
+use crate::progress::{SECONDS, SearchProgress, words_of};
 use crate::watch::are_over;
 use pesp_board::Board;
 use pesp_plan::Overseer;
 use pesp_problem::Instance;
-use pesp_search::{Observer, Part};
-use pesp_sharp_search::{SharpWatcher, Standing, cost_of};
+use pesp_search::{Observer, SearchPhase};
+use pesp_sharp_search::{SharpWatcher, Standing};
 use pesp_truth::Answer;
 use std::fmt::Display;
 use std::time::{Clock, Instant};
@@ -47,7 +47,7 @@ fn seconds_between(from: Option<Instant>, to: Option<Instant>) -> Option<u64> {
 
 /// Whether something better is known than by an answer.
 fn is_better(standing: Standing, known: Answer) -> bool {
-    let cheaper = match (standing.cost, cost_of(known)) {
+    let cheaper = match (standing.cost, known.cost()) {
         (Some(cost), Some(known)) => cost < known,
         (Some(_), None) => true,
         (None, _) => false,
@@ -94,11 +94,11 @@ impl<'a, R: Eprint + Clock> Planner<'a, R> {
     }
 
     /// Tells how far the plan is, where a line is due.
-    fn tell(&mut self, progress: Progress, now: Option<Instant>) {
+    fn tell(&mut self, progress: SearchProgress, now: Option<Instant>) {
         if self.is_due(now) {
             self.told = now;
             let seconds = seconds_between(self.begun, now);
-            self.say(Stage { seconds, progress });
+            self.say(PlanStage { seconds, progress });
         }
     }
 
@@ -119,7 +119,7 @@ impl<'a, R: Eprint + Clock> Planner<'a, R> {
 }
 
 impl<R: Eprint + Clock> Observer for Planner<'_, R> {
-    fn at(&mut self, part: Part) {
+    fn at(&mut self, part: SearchPhase) {
         let now = Instant::now(self.rt).ok();
         if self.is_due(now) {
             self.told = now;
@@ -129,14 +129,14 @@ impl<R: Eprint + Clock> Observer for Planner<'_, R> {
 
     fn look(&mut self, steps_used: u32, board: &Board) {
         let now = Instant::now(self.rt).ok();
-        self.tell(Progress::of(steps_used, board), now);
+        self.tell(SearchProgress::of(steps_used, board), now);
     }
 }
 
 impl<R: Eprint + Clock> SharpWatcher for Planner<'_, R> {
     fn goes_on(&mut self, standing: Standing) -> bool {
         let now = Instant::now(self.rt).ok();
-        self.tell(Progress::of_standing(standing), now);
+        self.tell(SearchProgress::of_standing(standing), now);
         self.pauses = self.is_pause(standing, now);
         !self.is_over(now) && !self.pauses
     }
@@ -164,6 +164,6 @@ impl<R: Eprint + Clock> Overseer for Planner<'_, R> {
 
     fn ends(&mut self, answer: Answer) {
         let again = self.again;
-        self.say(Outcome { answer, again });
+        self.say(PlanOutcome { answer, again });
     }
 }

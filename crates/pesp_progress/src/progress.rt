@@ -4,7 +4,7 @@ ghost use Rattle.std.specs.Prelude.{◌≡◌, ◌↔◌, ◌<◌, ◌≤◌, �
 ghost use Rattle.pesp_progress.specs.Looks.{IsMilestone};
 
 use pesp_board::Board;
-use pesp_search::{Observer, Part};
+use pesp_search::{Observer, SearchPhase};
 use pesp_sharp_search::{SharpObserver, Standing};
 use std::fmt;
 use std::rt::Clock;
@@ -12,7 +12,7 @@ use std::time::{Duration, Instant};
 
 /// How far a search is.
 #[derive(Clone, Copy, PartialEq, Eq, Drop)]
-pub struct Progress {
+pub struct SearchProgress {
     /// How many leaves were split.
     pub steps: u32,
     /// How many leaves are open, where that is known.
@@ -23,15 +23,15 @@ pub struct Progress {
     pub cost: Option<u64>,
 }
 
-impl Progress {
+impl SearchProgress {
     /// How far the search on a board is after so many steps.
-    pub fn of(steps: u32, board: &Board) -> Progress {
+    pub fn of(steps: u32, board: &Board) -> SearchProgress {
         let cost = board.best();
         let bound = match (board.least(), cost) {
             (Some(least), Some(cost)) => Some(least.min(cost)),
             (least, _) => least,
         };
-        Progress {
+        SearchProgress {
             steps,
             open: Some(board.open_leaves()),
             bound,
@@ -40,13 +40,13 @@ impl Progress {
     }
 
     /// How far a search is that sharpens.
-    pub(crate) fn of_standing(standing: Standing) -> Progress {
+    pub(crate) fn of_standing(standing: Standing) -> SearchProgress {
         let Standing {
             steps_used,
             bound,
             cost,
         } = standing;
-        Progress {
+        SearchProgress {
             steps: steps_used,
             open: None,
             bound: Some(bound.min(cost.unwrap_or(bound))),
@@ -65,9 +65,9 @@ impl Progress {
 
 /// A number, or `none`.
 #[derive(Drop)]
-struct Known(Option<u64>);
+struct NumberOrNone(Option<u64>);
 
-impl fmt::Display for Known {
+impl fmt::Display for NumberOrNone {
     fn fmt<W: fmt::Write>(&self, f: &mut fmt::Formatter<W>) -> fmt::Result {
         match self.0 {
             Some(number) => write!(f, "{number}"),
@@ -77,14 +77,14 @@ impl fmt::Display for Known {
 }
 
 /// One line, without the line feed at its end.
-impl fmt::Display for Progress {
+impl fmt::Display for SearchProgress {
     fn fmt<W: fmt::Write>(&self, f: &mut fmt::Formatter<W>) -> fmt::Result {
-        let Progress { steps, open, .. } = *self;
+        let SearchProgress { steps, open, .. } = *self;
         write!(f, "progress: steps {steps}")?;
         if let Some(open) = open {
             write!(f, ", open leaves {open}")?;
         }
-        let (bound, cost) = (Known(self.bound), Known(self.cost));
+        let (bound, cost) = (NumberOrNone(self.bound), NumberOrNone(self.cost));
         write!(f, ", cost {cost}, bound {bound}")?;
         match self.gap() {
             None => Ok(()),
@@ -127,9 +127,9 @@ impl Milestones {
     }
 
     /// How far the search is, where this look is told.
-    pub fn passed(&mut self, steps: u32, board: &Board) -> Option<Progress> {
+    pub fn passed(&mut self, steps: u32, board: &Board) -> Option<SearchProgress> {
         if self.is_told(steps, board.best()) {
-            Some(Progress::of(steps, board))
+            Some(SearchProgress::of(steps, board))
         } else {
             None
         }
@@ -138,9 +138,9 @@ impl Milestones {
 
 impl Milestones {
     /// How far a search is that sharpens, where this look is told.
-    pub(crate) fn passed_standing(&mut self, standing: Standing) -> Option<Progress> {
+    pub(crate) fn passed_standing(&mut self, standing: Standing) -> Option<SearchProgress> {
         if self.is_told(standing.steps_used, standing.cost) {
-            Some(Progress::of_standing(standing))
+            Some(SearchProgress::of_standing(standing))
         } else {
             None
         }
@@ -152,12 +152,12 @@ pub(crate) const SECONDS: u64 = 5;
 
 /// How long a search has gone on, and how many leaves were split meanwhile.
 #[derive(Clone, Copy, Drop)]
-struct Pace {
+struct SearchPace {
     steps: u32,
     gone: Duration,
 }
 
-impl Pace {
+impl SearchPace {
     /// Steps a second, in tenths, rounded down; None before a millisecond has passed.
     fn tenths(&self) -> Option<u128> {
         let steps = u128::from(self.steps).saturating_mul(10_000);
@@ -166,7 +166,7 @@ impl Pace {
 }
 
 /// What stands behind a line of progress.
-impl fmt::Display for Pace {
+impl fmt::Display for SearchPace {
     fn fmt<W: fmt::Write>(&self, f: &mut fmt::Formatter<W>) -> fmt::Result {
         let seconds = self.gone.as_secs();
         write!(f, ", seconds {seconds}")?;
@@ -182,22 +182,22 @@ impl fmt::Display for Pace {
 
 /// A line that tells which part of the search begins, with the seconds since the run began, where a clock could be read.
 #[derive(Drop)]
-struct Beginning {
-    part: Part,
+struct PhaseLine {
+    part: SearchPhase,
     gone: Option<Duration>,
 }
 
 /// What a part of the search does, in words.
-pub(crate) fn words_of(part: Part) -> &'static str {
+pub(crate) fn words_of(part: SearchPhase) -> &'static str {
     match part {
-        Part::Reduction => "drops activities that decide nothing",
-        Part::Forest => "looks for a spanning forest",
-        Part::Root => "looks for the root's bound",
-        Part::Times => "looks for first times",
+        SearchPhase::Reduction => "drops activities that decide nothing",
+        SearchPhase::Forest => "looks for a spanning forest",
+        SearchPhase::Root => "looks for the root's bound",
+        SearchPhase::Times => "looks for first times",
     }
 }
 
-impl fmt::Display for Beginning {
+impl fmt::Display for PhaseLine {
     fn fmt<W: fmt::Write>(&self, f: &mut fmt::Formatter<W>) -> fmt::Result {
         let part = words_of(self.part);
         write!(f, "progress: {part}")?;
@@ -214,8 +214,8 @@ impl fmt::Display for Beginning {
 /// A line of progress with its pace, where a clock could be read.
 #[derive(Drop)]
 struct Paced {
-    progress: Progress,
-    pace: Option<Pace>,
+    progress: SearchProgress,
+    pace: Option<SearchPace>,
 }
 
 impl fmt::Display for Paced {
@@ -281,9 +281,9 @@ impl<'a, R: Eprint + Clock> Teller<'a, R> {
     }
 
     /// Tells how far the search is now.
-    fn tell(&mut self, progress: Progress, now: Option<Instant>) {
+    fn tell(&mut self, progress: SearchProgress, now: Option<Instant>) {
         let pace = match self.gone(now) {
-            Some(gone) => Some(Pace {
+            Some(gone) => Some(SearchPace {
                 steps: progress.steps,
                 gone,
             }),
@@ -295,18 +295,18 @@ impl<'a, R: Eprint + Clock> Teller<'a, R> {
 }
 
 impl<R: Eprint + Clock> Observer for Teller<'_, R> {
-    fn at(&mut self, part: Part) {
+    fn at(&mut self, part: SearchPhase) {
         let now = self.now();
         let gone = self.gone(now);
         self.told = now;
-        self.say(Beginning { part, gone });
+        self.say(PhaseLine { part, gone });
     }
 
     fn look(&mut self, steps_used: u32, board: &Board) {
         let now = self.now();
         match self.milestones.passed(steps_used, board) {
             Some(progress) => self.tell(progress, now),
-            None if self.is_due(now) => self.tell(Progress::of(steps_used, board), now),
+            None if self.is_due(now) => self.tell(SearchProgress::of(steps_used, board), now),
             None => {}
         }
     }
@@ -317,7 +317,7 @@ impl<R: Eprint + Clock> SharpObserver for Teller<'_, R> {
         let now = self.now();
         let told = self.milestones.is_told(standing.steps_used, standing.cost);
         if told || self.is_due(now) {
-            self.tell(Progress::of_standing(standing), now);
+            self.tell(SearchProgress::of_standing(standing), now);
         }
     }
 }

@@ -5,8 +5,8 @@ ghost use Rattle.pesp_progress.specs.Looks.{AreOver};
 
 use crate::progress::Milestones;
 use pesp_board::Board;
-use pesp_resume::Watcher;
 use pesp_sharp_search::{SharpWatcher, Standing};
+use pesp_turns::Watcher;
 use std::time::{Clock, Instant};
 
 /// Tells on standard error how far a search is, where that is asked for, and ends it after so many seconds, where they are

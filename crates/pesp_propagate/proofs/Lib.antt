@@ -1,2 +1,16 @@
 pub mod Joining
 pub mod Propagating
+pub mod Prefixes
+pub mod Moving
+pub mod Taking
+pub mod Summing
+pub mod Choosing
+pub mod Sides
+pub mod Shifting
+pub mod Locals
+pub mod Crossings
+pub mod Trees
+pub mod Tallying
+pub mod Listing
+pub mod Climbing
+pub mod Judging

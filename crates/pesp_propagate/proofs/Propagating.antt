@@ -19,7 +19,7 @@ use Rattle.pesp_domains.specs.Waiting.{waits_at}
 use Rattle.pesp_domains.specs.Outcomes.{Shrinks, IsOutcome, LeavesSupported}
 use Rattle.pesp_propagate.specs.Answers.{HasNone, TellsEmpty}
 use Rattle.pesp_domains.specs.Visits.{net_at, sets_at, RestIsSupported}
-use Rattle.pesp_domains.specs.Rows.{RowsValue, rows_of}
+use Rattle.pesp_domains.specs.Rows.{RowsValue, network_rows}
 use Rattle.pesp_domains.specs.Full.{IsFull}
 
 -- what became of the sets
@@ -30,7 +30,7 @@ pub record Ended (n : Net) (ranges : List (ℕ × ℕ)) (events : ℕ) (old new 
 
 -- the period and the arcs of the work are those of the network
 pub at_network : (n : NetworkValue) (rows : RowsValue) (ranges : List (ℕ × ℕ)) (old new : SetRows)
-    (result : Result Outcome Memory) → rows ≡ rows_of n → old.period ≡ n.period → new.period ≡ n.period
+    (result : Result Outcome Memory) → rows ≡ network_rows n → old.period ≡ n.period → new.period ≡ n.period
     → Ended (net_at rows.period rows.arcs) ranges rows.events (sets_at rows.period old.words)
     (sets_at rows.period new.words) result → Ended (net_of_network n) ranges n.events (family_of old)
     (family_of new) result

@@ -4,7 +4,7 @@ ghost use Rattle.std.specs.Prelude.{◌≡◌, ℕ, ◌<◌, ◌≤◌, length, 
 ghost use Rattle.pesp_problem.specs.NetTimetables.{IsNetTimetable};
 ghost use Rattle.pesp_network.specs.Networks.{net_of_network};
 ghost use Rattle.pesp_domains.specs.Domains.{HaveSizes};
-ghost use Rattle.pesp_domains.specs.Rows.{rows_of};
+ghost use Rattle.pesp_domains.specs.Rows.{network_rows};
 
 use crate::choice::Experience;
 use pesp_domains::{Domains, Outcome, Rows};
@@ -245,7 +245,7 @@ fn try_rows(
     experience: &mut Experience,
     tries: u32,
 ) -> Result<Option<Vec<u32>>, Memory>
-    requires { rows.now ≡ rows_of network.now }
+    requires { rows.now ≡ network_rows network.now }
     ensures { IfOk result (λ found. IfSome found
         (λ times. IsNetTimetable (net_of_network network.now) network.now.events times.items)) }
 {

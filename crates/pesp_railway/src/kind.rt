@@ -1,12 +1,12 @@
 //! What activities are on a railway.
 
 use crate::duration::is_free;
-use crate::network::{Network, Place};
+use crate::network::{RailwayNetwork, StationPlace};
 use pesp_problem::Row;
 
 /// What an activity is to a line.
 #[derive(Clone, Copy, PartialEq, Eq)]
-pub enum Kind {
+pub enum ActivityKind {
     /// A train between two stations.
     Run,
     /// A train at a station.
@@ -24,37 +24,41 @@ pub enum Kind {
 /// What an activity between two places is to a line. What weighs nothing at a station keeps trains apart, and is something
 /// to a corridor alone.
 pub fn kind_on(
-    network: &Network<'_>,
+    network: &RailwayNetwork<'_>,
     line: usize,
     period: u32,
     row: &Row,
-    tail: Place,
-    head: Place,
-) -> Option<Kind> {
+    tail: StationPlace,
+    head: StationPlace,
+) -> Option<ActivityKind> {
     if tail.line == line && head.line == line && tail.station != head.station {
-        return Some(Kind::Run);
+        return Some(ActivityKind::Run);
     }
     if network.station(tail) != network.station(head) {
         return None;
     }
     if row.weight == 0 {
         let is_apart = network.is_corridor && !is_free(period, row);
-        return if is_apart { Some(Kind::Apart) } else { None };
+        return if is_apart {
+            Some(ActivityKind::Apart)
+        } else {
+            None
+        };
     }
     match (tail.line == line, head.line == line) {
-        (true, true) if is_free(period, row) => Some(Kind::Wait),
-        (true, true) => Some(Kind::Stand),
-        (true, false) => Some(Kind::Leave),
-        (false, true) => Some(Kind::Join),
+        (true, true) if is_free(period, row) => Some(ActivityKind::Wait),
+        (true, true) => Some(ActivityKind::Stand),
+        (true, false) => Some(ActivityKind::Leave),
+        (false, true) => Some(ActivityKind::Join),
         (false, false) => None,
     }
 }
 
 /// Whether an activity is a change of passengers from one train to another one, at one station.
-pub fn is_change(network: &Network<'_>, period: u32, row: &Row) -> bool {
+pub fn is_change(network: &RailwayNetwork<'_>, period: u32, row: &Row) -> bool {
     let (Some(tail), Some(head)) = (network.at(row.tail), network.at(row.head)) else {
         return false;
     };
     let kind = kind_on(network, tail.line, period, row, tail, head);
-    matches!(kind, Some(Kind::Wait | Kind::Leave))
+    matches!(kind, Some(ActivityKind::Wait | ActivityKind::Leave))
 }

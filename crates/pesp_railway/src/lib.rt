@@ -11,7 +11,7 @@ mod steps;
 mod ways;
 
 pub use duration::duration_of;
-pub use kind::{Kind, is_change, kind_on};
-pub use network::{Line, Network, Place};
-pub use step::{Direction, Halt, Step};
+pub use kind::{ActivityKind, is_change, kind_on};
+pub use network::{Line, RailwayNetwork, StationPlace};
+pub use step::{Direction, Halt, WayEvent};
 pub use steps::steps_of;

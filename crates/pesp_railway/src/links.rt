@@ -1,7 +1,7 @@
 //! The activities by which trains go on from event to event.
 
 use crate::duration::is_free;
-use crate::network::Network;
+use crate::network::RailwayNetwork;
 use crate::step::{Direction, Halt};
 use pesp_problem::{Instance, Row};
 use std::alloc::{AllocError, Global};
@@ -11,7 +11,7 @@ const RANKS: u32 = 4;
 
 /// For each event the place of the activity by which its train goes on, and of the one by which it came.
 #[derive(Drop)]
-pub struct Links {
+pub struct TrainLinks {
     ahead: Vec<Option<usize>>,
     behind: Vec<Option<usize>>,
 }
@@ -27,7 +27,7 @@ fn none_for(alloc: Global, instance: &Instance) -> Result<Vec<Option<usize>>, Al
 
 /// The rank of an activity by which a train may go on, those of the least rank first: what runs before what stands, and what
 /// weighs something before what weighs nothing. None of what isn't on one line, or may have any slack at a station.
-fn rank_of(network: &Network<'_>, period: u32, row: &Row) -> Option<u32> {
+fn rank_of(network: &RailwayNetwork<'_>, period: u32, row: &Row) -> Option<u32> {
     let (tail, head) = (network.at(row.tail)?, network.at(row.head)?);
     if tail.line != head.line || row.tail == row.head {
         return None;
@@ -43,7 +43,7 @@ fn rank_of(network: &Network<'_>, period: u32, row: &Row) -> Option<u32> {
 }
 
 /// In which direction an activity leads.
-fn direction_of(network: &Network<'_>, row: &Row) -> Direction {
+fn direction_of(network: &RailwayNetwork<'_>, row: &Row) -> Direction {
     match (network.at(row.tail), network.at(row.head)) {
         (Some(tail), Some(head)) if tail.station < head.station => Direction::Out,
         (Some(tail), Some(head)) if tail.station > head.station => Direction::Back,
@@ -51,15 +51,15 @@ fn direction_of(network: &Network<'_>, row: &Row) -> Direction {
     }
 }
 
-impl Links {
+impl TrainLinks {
     /// The links of an instance: each event has at most one ahead and one behind, those of the least rank. A train that turns
     /// round at a station doesn't go on there.
     pub fn of(
         alloc: Global,
         instance: &Instance,
-        network: &Network<'_>,
-    ) -> Result<Links, AllocError> {
-        let mut links = Links {
+        network: &RailwayNetwork<'_>,
+    ) -> Result<TrainLinks, AllocError> {
+        let mut links = TrainLinks {
             ahead: none_for(alloc, instance)?,
             behind: none_for(alloc, instance)?,
         };
@@ -88,7 +88,7 @@ impl Links {
     }
 
     /// Adds the activities of a rank whose events are free.
-    fn add_rank(&mut self, instance: &Instance, network: &Network<'_>, rank: u32) {
+    fn add_rank(&mut self, instance: &Instance, network: &RailwayNetwork<'_>, rank: u32) {
         for (place, row) in instance.rows().iter().enumerate() {
             if rank_of(network, instance.period(), row) == Some(rank) {
                 self.link(place, row);
@@ -125,7 +125,7 @@ impl Links {
     }
 
     /// Takes the links away at which trains turn round.
-    fn cut_turns(&mut self, instance: &Instance, network: &Network<'_>) {
+    fn cut_turns(&mut self, instance: &Instance, network: &RailwayNetwork<'_>) {
         for row in instance.rows() {
             if self.turns_at(instance, network, row) {
                 self.cut_before(instance, row.head);
@@ -134,7 +134,7 @@ impl Links {
     }
 
     /// Whether an activity is a link at a station, from a train of one direction to one of another.
-    fn turns_at(&self, instance: &Instance, network: &Network<'_>, row: &Row) -> bool {
+    fn turns_at(&self, instance: &Instance, network: &RailwayNetwork<'_>, row: &Row) -> bool {
         let is_link = match self.row_behind(instance, row.head) {
             Some(other) => other.tail == row.tail,
             None => false,
@@ -151,7 +151,7 @@ impl Links {
     pub fn direction_ahead(
         &self,
         instance: &Instance,
-        network: &Network<'_>,
+        network: &RailwayNetwork<'_>,
         event: u32,
     ) -> Direction {
         match self.row_ahead(instance, event) {
@@ -164,7 +164,7 @@ impl Links {
     fn direction_behind(
         &self,
         instance: &Instance,
-        network: &Network<'_>,
+        network: &RailwayNetwork<'_>,
         event: u32,
     ) -> Direction {
         match self.row_behind(instance, event) {
@@ -174,7 +174,7 @@ impl Links {
     }
 
     /// What the train does at an event.
-    pub fn halt_at(&self, instance: &Instance, network: &Network<'_>, event: u32) -> Halt {
+    pub fn halt_at(&self, instance: &Instance, network: &RailwayNetwork<'_>, event: u32) -> Halt {
         let comes = self.direction_behind(instance, network, event) != Direction::Nowhere;
         let leaves = self.direction_ahead(instance, network, event) != Direction::Nowhere;
         match (comes, leaves) {

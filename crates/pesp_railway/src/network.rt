@@ -10,7 +10,7 @@ const MOST: usize = 500;
 
 /// Where an event stands: the number of its line, and that of its station on it.
 #[derive(Clone, Copy, PartialEq, Eq)]
-pub struct Place {
+pub struct StationPlace {
     pub line: usize,
     pub station: usize,
 }
@@ -27,9 +27,9 @@ pub struct Line<'a> {
 /// The lines in the order in which the names first name them; where each event stands, by its number in the instance, and the
 /// name of its own line; how many events stand nowhere; and whether there is one line alone, a corridor for trains of all lines.
 #[derive(Drop)]
-pub struct Network<'a> {
+pub struct RailwayNetwork<'a> {
     pub lines: Vec<Line<'a>>,
-    places: Vec<Option<Place>>,
+    places: Vec<Option<StationPlace>>,
     owners: Vec<&'a str>,
     pub left: u32,
     pub is_corridor: bool,
@@ -37,7 +37,7 @@ pub struct Network<'a> {
 
 /// An event of the instance, by its number, with what is told of it.
 #[derive(Clone, Copy)]
-struct Stop<'a> {
+struct StopEvent<'a> {
     event: usize,
     name: &'a Name,
 }
@@ -47,12 +47,12 @@ fn stops_of<'a>(
     alloc: Global,
     instance: &Instance,
     names: &'a Names,
-) -> Result<Vec<Stop<'a>>, AllocError> {
+) -> Result<Vec<StopEvent<'a>>, AllocError> {
     let mut stops = Vec::new(alloc);
     for (event, label) in instance.events().iter().enumerate() {
         if let Some(name) = names.find(*label) {
             if !name.line.is_empty() && !name.station.is_empty() {
-                stops.push(Stop { event, name })?;
+                stops.push(StopEvent { event, name })?;
             }
         }
     }
@@ -86,15 +86,15 @@ fn line_along<'a>(alloc: Global, stations: &'a str) -> Result<Line<'a>, AllocErr
     Ok(line)
 }
 
-impl<'a> Network<'a> {
+impl<'a> RailwayNetwork<'a> {
     /// The lines and the places that names tell.
     pub fn of(
         alloc: Global,
         instance: &Instance,
         names: &'a Names,
-    ) -> Result<Network<'a>, AllocError> {
+    ) -> Result<RailwayNetwork<'a>, AllocError> {
         let stops = stops_of(alloc, instance, names)?;
-        let mut network = Network::without_lines(alloc, instance)?;
+        let mut network = RailwayNetwork::without_lines(alloc, instance)?;
         for stop in &stops {
             let place = network.place_of(alloc, stop.name)?;
             network.put(stop, place);
@@ -110,9 +110,9 @@ impl<'a> Network<'a> {
         instance: &Instance,
         names: &'a Names,
         stations: &'a str,
-    ) -> Result<Network<'a>, AllocError> {
+    ) -> Result<RailwayNetwork<'a>, AllocError> {
         let stops = stops_of(alloc, instance, names)?;
-        let mut network = Network::without_lines(alloc, instance)?;
+        let mut network = RailwayNetwork::without_lines(alloc, instance)?;
         network.lines.push(line_along(alloc, stations)?)?;
         network.is_corridor = true;
         for stop in &stops {
@@ -125,8 +125,8 @@ impl<'a> Network<'a> {
     }
 
     /// No lines: each event stands nowhere.
-    fn without_lines(alloc: Global, instance: &Instance) -> Result<Network<'a>, AllocError> {
-        let mut network = Network {
+    fn without_lines(alloc: Global, instance: &Instance) -> Result<RailwayNetwork<'a>, AllocError> {
+        let mut network = RailwayNetwork {
             lines: Vec::new(alloc),
             places: Vec::new(alloc),
             owners: Vec::new(alloc),
@@ -141,10 +141,10 @@ impl<'a> Network<'a> {
     }
 
     /// Where a station stands on the first line.
-    fn place_along(&self, station: &str) -> Option<Place> {
+    fn place_along(&self, station: &str) -> Option<StationPlace> {
         let line = self.lines.first()?;
         let place = line.stations.iter().position(|other| *other == station)?;
-        Some(Place {
+        Some(StationPlace {
             line: 0,
             station: place,
         })
@@ -152,7 +152,7 @@ impl<'a> Network<'a> {
 
     /// Whether an event stands at a station of the first line.
     fn has_events(&self, station: usize) -> bool {
-        let here = Some(Place { line: 0, station });
+        let here = Some(StationPlace { line: 0, station });
         self.places.iter().any(|place| *place == here)
     }
 
@@ -211,7 +211,11 @@ impl<'a> Network<'a> {
     }
 
     /// Where an event with this name stands.
-    fn place_of(&mut self, alloc: Global, name: &'a Name) -> Result<Option<Place>, AllocError> {
+    fn place_of(
+        &mut self,
+        alloc: Global,
+        name: &'a Name,
+    ) -> Result<Option<StationPlace>, AllocError> {
         let Some(line) = self.number_of_line(alloc, name.line.as_str())? else {
             return Ok(None);
         };
@@ -219,13 +223,13 @@ impl<'a> Network<'a> {
             return Ok(None);
         };
         match place_among(&mut found.stations, name.station.as_str())? {
-            Some(station) => Ok(Some(Place { line, station })),
+            Some(station) => Ok(Some(StationPlace { line, station })),
             None => Ok(None),
         }
     }
 
     /// Puts an event at a place.
-    fn put(&mut self, stop: &Stop<'a>, place: Option<Place>) {
+    fn put(&mut self, stop: &StopEvent<'a>, place: Option<StationPlace>) {
         if let Some(old) = self.places.get_mut(stop.event) {
             *old = place;
         }
@@ -246,12 +250,12 @@ impl<'a> Network<'a> {
     }
 
     /// Where an event stands.
-    pub fn at(&self, event: u32) -> Option<Place> {
+    pub fn at(&self, event: u32) -> Option<StationPlace> {
         self.places.get(event as usize).copied()?
     }
 
     /// The name of the station at a place.
-    pub fn station(&self, place: Place) -> &'a str {
+    pub fn station(&self, place: StationPlace) -> &'a str {
         match self.lines.get(place.line) {
             Some(line) => line.stations.get(place.station).copied().unwrap_or(""),
             None => "",

@@ -67,7 +67,7 @@ impl Halt {
 /// An event on the way of a train: the number of the way, and that of the event along it, both from 1 on; how many periods
 /// have begun since that of the way's first event; the direction of the way; and what the train does there.
 #[derive(Clone, Copy)]
-pub struct Step {
+pub struct WayEvent {
     pub way: u32,
     pub stop: u32,
     pub laps: u32,

@@ -1,20 +1,20 @@
 //! The events along the ways of trains.
 
 use crate::duration::duration_of;
-use crate::links::Links;
-use crate::network::Network;
-use crate::step::{Direction, Halt, Step};
+use crate::links::TrainLinks;
+use crate::network::RailwayNetwork;
+use crate::step::{Direction, Halt, WayEvent};
 use crate::ways::{Way, cut_rings, numbers_of, ways_of};
 use pesp_problem::Instance;
 use std::alloc::{AllocError, Global};
 
 /// What is known of the ways, with the number of the one that is gone along.
 #[derive(Clone, Copy)]
-struct Going<'a> {
-    links: &'a Links,
+struct WayProgress<'a> {
+    links: &'a TrainLinks,
     instance: &'a Instance,
     times: &'a [u32],
-    network: &'a Network<'a>,
+    network: &'a RailwayNetwork<'a>,
 }
 
 /// How many periods lie before a time.
@@ -24,8 +24,8 @@ fn laps_at(period: u32, running: i64) -> u32 {
 }
 
 /// An event for which no way is known: it stands behind all ways, at its own number.
-fn step_without_way(ways: usize, event: usize) -> Step {
-    Step {
+fn step_without_way(ways: usize, event: usize) -> WayEvent {
+    WayEvent {
         way: u32::try_from(ways).unwrap_or(u32::MAX).saturating_add(1),
         stop: u32::try_from(event).unwrap_or(u32::MAX).saturating_add(1),
         laps: 0,
@@ -39,7 +39,7 @@ fn steps_without_ways(
     alloc: Global,
     instance: &Instance,
     ways: usize,
-) -> Result<Vec<Step>, AllocError> {
+) -> Result<Vec<WayEvent>, AllocError> {
     let mut steps = Vec::new(alloc);
     for event in 0..instance.events().len() {
         steps.push(step_without_way(ways, event))?;
@@ -48,8 +48,8 @@ fn steps_without_ways(
 }
 
 /// Puts the events of a way into their places.
-fn go_along(steps: &mut [Step], going: Going<'_>, number: u32, way: Way) {
-    let Going {
+fn go_along(steps: &mut [WayEvent], going: WayProgress<'_>, number: u32, way: Way) {
+    let WayProgress {
         links,
         instance,
         times,
@@ -59,7 +59,7 @@ fn go_along(steps: &mut [Step], going: Going<'_>, number: u32, way: Way) {
     let mut running = i64::from(way.time);
     for stop in 1..numbers_of(instance).saturating_add(1) {
         if let Some(step) = steps.get_mut(event as usize) {
-            *step = Step {
+            *step = WayEvent {
                 way: number,
                 stop,
                 laps: laps_at(instance.period(), running),
@@ -82,16 +82,16 @@ pub fn steps_of(
     alloc: Global,
     instance: &Instance,
     times: &[u32],
-    network: Option<&Network<'_>>,
-) -> Result<Vec<Step>, AllocError> {
+    network: Option<&RailwayNetwork<'_>>,
+) -> Result<Vec<WayEvent>, AllocError> {
     let Some(network) = network else {
         return steps_without_ways(alloc, instance, 0);
     };
-    let mut links = Links::of(alloc, instance, network)?;
+    let mut links = TrainLinks::of(alloc, instance, network)?;
     cut_rings(alloc, &mut links, instance)?;
     let ways = ways_of(alloc, &links, instance, times, network)?;
     let mut steps = steps_without_ways(alloc, instance, ways.len())?;
-    let going = Going {
+    let going = WayProgress {
         links: &links,
         instance,
         times,

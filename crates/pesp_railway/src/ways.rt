@@ -1,7 +1,7 @@
 //! The ways of trains, in their order.
 
-use crate::links::Links;
-use crate::network::Network;
+use crate::links::TrainLinks;
+use crate::network::RailwayNetwork;
 use crate::step::Direction;
 use pesp_problem::Instance;
 use std::alloc::{AllocError, Global};
@@ -21,7 +21,7 @@ pub fn numbers_of(instance: &Instance) -> u32 {
 }
 
 /// Marks the events of a train's way from an event on, up to one that is marked.
-fn mark_from(reached: &mut [bool], links: &Links, instance: &Instance, first: u32) {
+fn mark_from(reached: &mut [bool], links: &TrainLinks, instance: &Instance, first: u32) {
     let mut event = first;
     for _ in 0..numbers_of(instance) {
         match reached.get_mut(event as usize) {
@@ -36,7 +36,11 @@ fn mark_from(reached: &mut [bool], links: &Links, instance: &Instance, first: u3
 }
 
 /// The events that a train reaches from where it begins.
-fn reached_of(alloc: Global, links: &Links, instance: &Instance) -> Result<Vec<bool>, AllocError> {
+fn reached_of(
+    alloc: Global,
+    links: &TrainLinks,
+    instance: &Instance,
+) -> Result<Vec<bool>, AllocError> {
     let mut reached = Vec::new(alloc);
     for _ in instance.events() {
         reached.push(false)?;
@@ -50,7 +54,11 @@ fn reached_of(alloc: Global, links: &Links, instance: &Instance) -> Result<Vec<b
 }
 
 /// Cuts the ways that lead back to where they begin, each before its first event.
-pub fn cut_rings(alloc: Global, links: &mut Links, instance: &Instance) -> Result<(), AllocError> {
+pub fn cut_rings(
+    alloc: Global,
+    links: &mut TrainLinks,
+    instance: &Instance,
+) -> Result<(), AllocError> {
     let mut reached = reached_of(alloc, links, instance)?;
     for event in 0..numbers_of(instance) {
         if reached.get(event as usize).copied() == Some(false) {
@@ -63,9 +71,9 @@ pub fn cut_rings(alloc: Global, links: &mut Links, instance: &Instance) -> Resul
 
 /// In which direction a train goes that begins at an event.
 fn direction_from(
-    links: &Links,
+    links: &TrainLinks,
     instance: &Instance,
-    network: &Network<'_>,
+    network: &RailwayNetwork<'_>,
     first: u32,
 ) -> Direction {
     let mut event = first;
@@ -84,10 +92,10 @@ fn direction_from(
 
 /// The way that begins at an event, if one does.
 fn way_from(
-    links: &Links,
+    links: &TrainLinks,
     instance: &Instance,
     times: &[u32],
-    network: &Network<'_>,
+    network: &RailwayNetwork<'_>,
     first: u32,
 ) -> Option<Way> {
     let place = network.at(first)?;
@@ -105,10 +113,10 @@ fn way_from(
 /// The ways of all trains: by line, then those outward before those back, then by the time at which they begin.
 pub fn ways_of(
     alloc: Global,
-    links: &Links,
+    links: &TrainLinks,
     instance: &Instance,
     times: &[u32],
-    network: &Network<'_>,
+    network: &RailwayNetwork<'_>,
 ) -> Result<Vec<Way>, AllocError> {
     let mut ways = Vec::new(alloc);
     for event in 0..numbers_of(instance) {

@@ -11,7 +11,7 @@ use Rattle.pesp_problem.specs.Walks.{Names, RowExists, AreRows, Leads, IsWalk, s
 use Rattle.pesp_problem.specs.Forests.{IsSpanningForest, KeepsTo, AreJoined}
 use Rattle.pesp_network.specs.declared.row.NetRow.{NetRow}
 use Rattle.pesp_network.specs.Networks.{net_row_at, no_net_row, arc_of_net, arcs_of_network, KeepsNetLimits, RowKeepsNetLimits}
-use Rattle.pesp_reduce.specs.Rows.{flag, part, loop_at, fixed_row}
+use Rattle.pesp_reduce.specs.Rows.{flag, row_or_loop, loop_at, fixed_row}
 use Rattle.pesp_reduce.specs.Contractions.{AreTree, AreShifts, AreTogether, AreFlags, IsStanding}
 use Rattle.pesp_problem.proofs.Congruences.{none_left}
 use Rattle.pesp_reduce.proofs.Lists.{arc_at_net, arcs_length, row_of_map}
@@ -21,7 +21,7 @@ use Rattle.pesp_reduce.proofs.Standings.{standing_joined}
 
 -- ---- limits
 
-pub part_cases : (b : Bool) (row : NetRow) → (part b row ≡ row) ⊎ (part b row ≡ loop_at row)
+pub part_cases : (b : Bool) (row : NetRow) → (row_or_loop b row ≡ row) ⊎ (row_or_loop b row ≡ loop_at row)
 part_cases true row = inl refl
 part_cases false row = inr refl
 
@@ -57,10 +57,10 @@ fixed_at : (rows : List NetRow) (i : ℕ) → net_row_at (map fixed_row rows) i 
 fixed_at rows i = row_of_map fixed_row rows i refl
 
 fixed_on : (row : NetRow) → row.span ≡ 0 → fixed_row row ≡ row
-fixed_on row e = ap (λ (b : Bool). part b row) (eq-eqb row.span 0 e)
+fixed_on row e = ap (λ (b : Bool). row_or_loop b row) (eq-eqb row.span 0 e)
 
 fixed_off : (row : NetRow) → (row.span == 0) ≡ false → fixed_row row ≡ loop_at row
-fixed_off row e = ap (λ (b : Bool). part b row) e
+fixed_off row e = ap (λ (b : Bool). row_or_loop b row) e
 
 pub fixed_arc : (rows : List NetRow) (i : ℕ) → (net_row_at rows i).span ≡ 0
     → arc_at (arcs_of_network (map fixed_row rows)) i ≡ arc_at (arcs_of_network rows) i
@@ -115,7 +115,7 @@ fixed_no_cycle rows forest flags (s ∷ way) i f g w k =
 pub are_tree : (rows tree : List NetRow) (forest : List ℕ) (flags : List Bool)
     → IsSpanningForest (arcs_of_network (map fixed_row rows)) forest → AreFlags (length rows) forest flags
     → length tree ≡ length rows
-    → ((i : ℕ) → i < length rows → net_row_at tree i ≡ part (flag flags i) (net_row_at rows i)) → AreTree rows tree flags
+    → ((i : ℕ) → i < length rows → net_row_at tree i ≡ row_or_loop (flag flags i) (net_row_at rows i)) → AreTree rows tree flags
 are_tree rows tree forest flags f g n each = record {
   flags_count = g.count_is;
   tree_count = n;
@@ -127,7 +127,7 @@ are_tree rows tree forest flags f g n each = record {
         let past = get_or_past tree i no_net_row (omega arith) in
         let past_flag = get_or_past flags i false (omega (arith, g.count_is)) in
         let past_row = get_or_past rows i no_net_row m in
-        past ∙ sym (ap (λ (row : NetRow). part (flag flags i) row) past_row ∙ ap (λ (b : Bool). part b no_net_row) past_flag)
+        past ∙ sym (ap (λ (row : NetRow). row_or_loop (flag flags i) row) past_row ∙ ap (λ (b : Bool). row_or_loop b no_net_row) past_flag)
   ];
 }
 
@@ -192,7 +192,7 @@ keeps_fixed period events rows made forest k e =
 pub keeps_some : (period events : ℕ) (rows made : List NetRow) (forest : List ℕ) (flags : List Bool)
     → KeepsNetLimits (record { period = period; events = events; rows = rows; forest = forest })
     → length made ≡ length rows
-    → ((i : ℕ) → i < length rows → net_row_at made i ≡ part (flag flags i) (net_row_at rows i))
+    → ((i : ℕ) → i < length rows → net_row_at made i ≡ row_or_loop (flag flags i) (net_row_at rows i))
     → KeepsNetLimits (record { period = period; events = events; rows = made; forest = [] })
 keeps_some period events rows made forest flags k n each =
     keeps_parts period events rows made forest k n (λ i l. elim (part_cases (flag flags i) (net_row_at rows i)) [

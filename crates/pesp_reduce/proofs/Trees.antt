@@ -13,7 +13,7 @@ use Rattle.pesp_problem.proofs.Walks.{net_count-cons, step_same, sum_along, net_
 use Rattle.pesp_problem.proofs.Integers.{sum_below-zero, zero-mul}
 use Rattle.pesp_network.specs.declared.row.NetRow.{NetRow}
 use Rattle.pesp_network.specs.Networks.{net_row_at, arc_of_net, arcs_of_network}
-use Rattle.pesp_reduce.specs.Rows.{flag, part, loop_at}
+use Rattle.pesp_reduce.specs.Rows.{flag, row_or_loop, loop_at}
 use Rattle.pesp_reduce.specs.Contractions.{HaveNoCycleAt, AreTree}
 use Rattle.pesp_reduce.proofs.Lists.{arc_at_net, arcs_length}
 
@@ -63,11 +63,11 @@ closed_sum arcs flags way a g n r h k =
 abbrev pub is_flagged : List Bool → SignedRow → Bool
 is_flagged flags s = flag flags (s.row - 1)
 
-part_on : (b : Bool) (row : NetRow) → b ≡ true → part b row ≡ row
-part_on b row e = ap (λ (x : Bool). part x row) e
+part_on : (b : Bool) (row : NetRow) → b ≡ true → row_or_loop b row ≡ row
+part_on b row e = ap (λ (x : Bool). row_or_loop x row) e
 
 part_off : (b : Bool) (row : NetRow) → b ≡ false
-    → part b row ≡ record {
+    → row_or_loop b row ≡ record {
       tail = row.tail;
       head = row.tail;
       lower = pos 0;
@@ -75,7 +75,7 @@ part_off : (b : Bool) (row : NetRow) → b ≡ false
       weight = 0;
       origin = row.origin;
     }
-part_off b row e = ap (λ (x : Bool). part x row) e
+part_off b row e = ap (λ (x : Bool). row_or_loop x row) e
 
 pub same_arc : (rows tree : List NetRow) (flags : List Bool) (i : ℕ) → AreTree rows tree flags
     → flag flags i ≡ true → arc_at (arcs_of_network tree) i ≡ arc_at (arcs_of_network rows) i

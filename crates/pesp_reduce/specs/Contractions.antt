@@ -7,7 +7,7 @@ use Rattle.pesp_problem.specs.Forests.{IsFirstOf, IsSpanningForest}
 use Rattle.pesp_network.specs.declared.row.NetRow.{NetRow}
 use Rattle.pesp_network.specs.Networks.{net_row_at, arcs_of_network}
 use Rattle.pesp_problem.specs.Congruences.{IsSame}
-use Rattle.pesp_reduce.specs.Rows.{flag, part, fixed_row}
+use Rattle.pesp_reduce.specs.Rows.{flag, row_or_loop, fixed_row}
 
 -- no walk along the flagged rows alone passes a row more often one way than the other
 abbrev pub HaveNoCycleAt : List Arc → List Bool → Type 0
@@ -29,7 +29,7 @@ pub record AreTree (rows tree : List NetRow) (flags : List Bool) : Type 0 where
   pub tree_count : length tree ≡ length rows
   pub fixed : (i : ℕ) → flag flags i ≡ true → (i < length rows) × ((net_row_at rows i).span ≡ 0)
   pub no_cycle : HaveNoCycleAt (arcs_of_network rows) flags
-  pub parts : (i : ℕ) → net_row_at tree i ≡ part (flag flags i) (net_row_at rows i)
+  pub parts : (i : ℕ) → net_row_at tree i ≡ row_or_loop (flag flags i) (net_row_at rows i)
 
 -- shifts below the period that give each flagged row slack 0
 pub record AreShifts (period events : ℕ) (rows : List NetRow) (flags : List Bool) (shifts : List ℕ) : Type 0 where

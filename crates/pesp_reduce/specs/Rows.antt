@@ -16,8 +16,8 @@ abbrev pub loop_at : NetRow → NetRow
 loop_at row = record { tail = row.tail; head = row.tail; lower = pos 0; span = 0; weight = 0; origin = row.origin }
 
 -- the row where it takes part, else the loop at its tail
-abbrev pub part : Bool → NetRow → NetRow
-part takes row = if takes then row else loop_at row
+abbrev pub row_or_loop : Bool → NetRow → NetRow
+row_or_loop takes row = if takes then row else loop_at row
 
 -- a row, or a loop where it is a free row of weight 0
 abbrev pub row_that_matters : ℕ → NetRow → NetRow
@@ -25,7 +25,7 @@ row_that_matters period row = if is_free period row then loop_at row else row
 
 -- a row, or a loop where it isn't fixed
 abbrev pub fixed_row : NetRow → NetRow
-fixed_row row = part (row.span == 0) row
+fixed_row row = row_or_loop (row.span == 0) row
 
 -- a truth value at a place, false past the end
 abbrev pub flag : List Bool → ℕ → Bool

@@ -32,7 +32,7 @@ pub struct Contraction {
 
 /// The numbers of events.
 #[derive(Drop)]
-pub struct Standing {
+pub struct EventNumbers {
     pub stands: Vec<u32>,
     pub firsts: Vec<u32>,
 }
@@ -68,7 +68,7 @@ fn shifts_of(alloc: Global, tree: &Network) -> Result<Vec<u32>, Memory>
 }
 
 /// Numbers for the first events of those that are joined, and for all that are joined with them.
-fn standing_of(alloc: Global, tree: &Network) -> Result<Standing, AllocError>
+fn standing_of(alloc: Global, tree: &Network) -> Result<EventNumbers, AllocError>
     ensures { IfOk result (λ s. IsStanding (arcs_of_network tree.now.rows) tree.now.events
         s.stands.items s.firsts.items) }
 {
@@ -84,7 +84,7 @@ fn standing_of(alloc: Global, tree: &Network) -> Result<Standing, AllocError>
         stands.push(firsts.len() as u32)?;
         firsts.push(event)?;
     }
-    Ok(Standing { stands, firsts })
+    Ok(EventNumbers { stands, firsts })
 }
 
 /// The rows of a spanning forest of the fixed rows.
@@ -125,7 +125,7 @@ pub fn contract(alloc: Global, whole: &Network) -> Result<Contraction, Memory>
     let contracted = contracted_of(alloc, whole)?;
     let tree = tree_of(alloc, whole, contracted.as_slice())?;
     let shifts = shifts_of(alloc, &tree)?;
-    let Standing { stands, firsts } = standing_of(alloc, &tree)?;
+    let EventNumbers { stands, firsts } = standing_of(alloc, &tree)?;
     Ok(Contraction {
         tree,
         contracted,

@@ -7,7 +7,7 @@ ghost use Rattle.pesp_reduce.specs.Rows.{row_that_matters};
 ghost use Rattle.pesp_reduce.specs.Contracting.{IsContraction};
 ghost use Rattle.pesp_reduce.specs.Fates.{mapped_row};
 ghost use Rattle.pesp_reduce.specs.Reductions.{IsReduction};
-ghost use Rattle.pesp_reduce.specs.Parts.{IsKept};
+ghost use Rattle.pesp_reduce.specs.Parts.{FatesAreKept};
 
 use crate::contraction::{Contraction, contract};
 use crate::fate::Fate;
@@ -78,7 +78,7 @@ fn fated(
     requires left { length left.now.rows ≡ length given.now }
     ensures period { IfOk result (λ kept. kept.network.period ≡ left.now.period) }
     ensures events { IfOk result (λ kept. kept.network.events ≡ left.now.events) }
-    ensures kept { IfOk result (IsKept period given.now contracted.now left.now.rows) }
+    ensures kept { IfOk result (FatesAreKept period given.now contracted.now left.now.rows) }
 {
     let rows = left.rows();
     let fates = fates_of(alloc, period, given, contracted, left)?;
@@ -103,7 +103,7 @@ fn kept_of(
     ensures period { IfOk result (λ kept. kept.network.period ≡ whole.now.period) }
     ensures events { IfOk result
         (λ kept. kept.network.events ≡ length contraction.now.firsts.items) }
-    ensures kept { IfOk result (IsKept period given.now contraction.now.contracted.items
+    ensures kept { IfOk result (FatesAreKept period given.now contraction.now.contracted.items
         (map (mapped_row contraction.now.stands.items contraction.now.shifts.items) whole.now.rows)) }
 {
     let left = left_of(alloc, whole, contraction)?;

@@ -24,7 +24,7 @@ fn loop_at(row: &NetRow) -> NetRow
 
 /// The row where it takes part, else a loop.
 fn part(takes: bool, row: &NetRow) -> NetRow
-    ensures { result ≡ spec.part takes row.now }
+    ensures { result ≡ spec.row_or_loop takes row.now }
 {
     if takes { *row } else { loop_at(row) }
 }
@@ -82,7 +82,7 @@ pub fn part_of(alloc: Global, rows: &[NetRow], takes: &[bool]) -> Result<Vec<Net
     requires { length takes.now ≡ length rows.now }
     ensures count { IfOk result (λ made. vec_len made ≡ length rows.now) }
     ensures rows { IfOk result (λ made. (i : ℕ) → i < length rows.now
-        → net_row_at made.items i ≡ spec.part (spec.flag takes.now i) (net_row_at rows.now i)) }
+        → net_row_at made.items i ≡ spec.row_or_loop (spec.flag takes.now i) (net_row_at rows.now i)) }
 {
     let mut made = Vec::new(alloc);
     for (i, row) in rows.iter().enumerate() {

@@ -1,6 +1,6 @@
 //! Regions of all divisions, each with the regions of the finer one that are inside it.
 
-use crate::region::{Region, Whole};
+use crate::region::{Region, WholeNetwork};
 use crate::region_search::RegionSearch;
 use pesp_network::Network;
 use pesp_partition::{Division, Multiplied, Units, Weights};
@@ -145,7 +145,7 @@ fn search_of(
     level: &Level<'_>,
     region: u32,
 ) -> Result<Option<RegionSearch>, Memory> {
-    let whole = Whole {
+    let whole = WholeNetwork {
         network: parted.network,
         division: level.division,
         inequalities: parted.inequalities,

@@ -22,7 +22,7 @@ pub(crate) struct Region {
 
 /// What regions are made from: the whole network, its division, the inequalities, and the weights that are left.
 #[derive(Clone, Copy)]
-pub(crate) struct Whole<'a> {
+pub(crate) struct WholeNetwork<'a> {
     pub(crate) network: &'a Network,
     pub(crate) division: &'a Division,
     pub(crate) inequalities: &'a [Multiplied],
@@ -128,7 +128,7 @@ impl Making {
     }
 
     /// Takes in the rows of a region.
-    fn take_rows(&mut self, whole: Whole<'_>, region: u32) -> Result<(), AllocError> {
+    fn take_rows(&mut self, whole: WholeNetwork<'_>, region: u32) -> Result<(), AllocError> {
         let rows = whole.network.rows().iter();
         for (place, (row, weight)) in rows.zip(whole.weights.rows.iter()).enumerate() {
             let number = number_of(place);
@@ -165,7 +165,7 @@ impl Making {
     fn walks(
         &self,
         alloc: Global,
-        whole: Whole<'_>,
+        whole: WholeNetwork<'_>,
         region: u32,
     ) -> Result<Vec<Vec<Pass>>, AllocError> {
         let mut walks = Vec::new(alloc);
@@ -181,7 +181,7 @@ impl Making {
     fn fill(
         &mut self,
         alloc: Global,
-        whole: Whole<'_>,
+        whole: WholeNetwork<'_>,
         region: u32,
     ) -> Result<Vec<Vec<Pass>>, AllocError> {
         self.take_rows(whole, region)?;
@@ -222,7 +222,7 @@ impl Region {
     /// A region by its number; None where its rows are no network's.
     pub(crate) fn of(
         alloc: Global,
-        whole: Whole<'_>,
+        whole: WholeNetwork<'_>,
         region: u32,
     ) -> Result<Option<Region>, Memory> {
         let network = whole.network;

@@ -33,7 +33,7 @@ const MOST_SIZE: usize = 16_000_000;
 
 /// Nested regions, what is to be added to the bounds of the outer ones, and the units.
 #[derive(Drop)]
-struct Found {
+struct NestedRegions {
     nesting: Nesting,
     outside: i128,
     units: Units,
@@ -72,10 +72,10 @@ fn nested_of(
     alloc: Global,
     parted: Parted<'_>,
     divisions: &[Division],
-) -> Result<Option<Found>, Memory> {
+) -> Result<Option<NestedRegions>, Memory> {
     let mut nesting = Nesting::new(alloc);
     match nest(alloc, parted, divisions, &mut nesting) {
-        Ok(Some(outside)) => Ok(Some(Found {
+        Ok(Some(outside)) => Ok(Some(NestedRegions {
             nesting,
             outside,
             units: parted.units,
@@ -98,7 +98,7 @@ fn divided(
     divisions: &[Division],
     inequalities: &[Multiplied],
     scale: u32,
-) -> Result<Option<Found>, Memory> {
+) -> Result<Option<NestedRegions>, Memory> {
     let units = units_for(alloc, network.rows(), divisions, inequalities, scale)?;
     let parted = Parted {
         network,
@@ -116,7 +116,7 @@ fn shifted(
     inequalities: &mut [Multiplied],
     slacks: &[i64],
     scale: u32,
-) -> Result<Option<Found>, Memory> {
+) -> Result<Option<NestedRegions>, Memory> {
     if divisions.first().map_or(0, |division| division.count()) < 2 {
         return Ok(None);
     }
@@ -133,7 +133,7 @@ fn found_of(
     scale: u32,
     least: u32,
     most: u32,
-) -> Result<Option<Found>, Memory> {
+) -> Result<Option<NestedRegions>, Memory> {
     let divisions = divisions_of(alloc, network, inequalities, least, most)?;
     let found = shifted(alloc, network, &divisions, inequalities, slacks, scale);
     drop(divisions);
@@ -181,8 +181,8 @@ impl Regions {
     }
 
     /// The regions that were found by inequalities.
-    fn with(alloc: Global, found: Found, inequalities: Vec<Multiplied>) -> Regions {
-        let Found {
+    fn with(alloc: Global, found: NestedRegions, inequalities: Vec<Multiplied>) -> Regions {
+        let NestedRegions {
             nesting,
             outside,
             units,

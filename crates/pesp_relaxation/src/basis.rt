@@ -1,10 +1,10 @@
 //! A circulation with a spanning tree of its rows: prices by the tree, and the rows along which more flow or less would
 //! cost less.
 
-use crate::listed::Listed;
-use crate::row::{Bend, Part, Row, Slopes, Step};
+use crate::listed::RowSet;
+use crate::row::{Bend, CostPiece, FlowRow, PivotStep, Slopes};
+use pesp_forest::guarded::{amount, number, set_amount, set_number};
 use pesp_forest::{Frame, NONE, Tree};
-use pesp_search_tools::guarded::{amount, number, set_amount, set_number};
 use std::alloc::{AllocError, Global};
 
 /// How many listed rows are all looked at for each step.
@@ -15,7 +15,7 @@ const BLOCK: u32 = 1024;
 
 /// Where pivots end: nothing is cheaper; along some closed way more flow costs less without end; or there are to be no more.
 #[derive(Clone, Copy, PartialEq, Eq)]
-pub enum Ended {
+pub enum PivotEnd {
     Best,
     Endless,
     Open,
@@ -28,22 +28,22 @@ pub enum Ended {
 /// are listed too, with by how much the circulation has become cheaper since then.
 #[derive(Drop)]
 pub struct Basis {
-    pub(crate) rows: Vec<Row>,
+    pub(crate) rows: Vec<FlowRow>,
     pub(crate) tree: Tree,
     prices: Vec<i64>,
     moved: Vec<u32>,
     moves: u32,
     last: Vec<u32>,
-    violated: Listed,
+    violated: RowSet,
     next: u32,
     is_stale: bool,
-    pub(crate) changed: Listed,
+    pub(crate) changed: RowSet,
     pub(crate) fall: i128,
 }
 
 /// A row without a flow and without costs.
-fn idle_row(weight: u64, tail: u32, head: u32) -> Row {
-    Row {
+fn idle_row(weight: u64, tail: u32, head: u32) -> FlowRow {
+    FlowRow {
         slopes: Slopes {
             below: 0,
             between: 0,
@@ -53,7 +53,7 @@ fn idle_row(weight: u64, tail: u32, head: u32) -> Row {
         flow: 0,
         tail,
         head,
-        part: Part::Between,
+        part: CostPiece::Between,
         bend: Bend::Zero,
         is_basic: false,
     }
@@ -68,7 +68,7 @@ impl Basis {
         }
         let events = frame.events();
         Ok(Basis {
-            violated: Listed::none(alloc, rows.len())?,
+            violated: RowSet::none(alloc, rows.len())?,
             rows,
             tree: Tree::apart(alloc, events)?,
             prices: vec![in alloc; 0i64; events]?,
@@ -77,7 +77,7 @@ impl Basis {
             last: vec![in alloc; 0u32; events]?,
             next: 0,
             is_stale: true,
-            changed: Listed::none(alloc, frame.rows().len())?,
+            changed: RowSet::none(alloc, frame.rows().len())?,
             fall: 0,
         })
     }
@@ -133,7 +133,7 @@ impl Basis {
     }
 
     /// Sets the rows that have changed in these as they are here.
-    fn write_changes(&self, rows: &mut [Row]) -> Option<()> {
+    fn write_changes(&self, rows: &mut [FlowRow]) -> Option<()> {
         for place in 0..self.changed.count() {
             let row = self.changed.at(place)?;
             *rows.get_mut(row as usize)? = self.rows.get(row as usize).copied()?;
@@ -142,7 +142,7 @@ impl Basis {
     }
 
     /// Sets the rows that have changed as they are in these.
-    fn take_back_rows(&mut self, rows: &[Row]) -> Option<()> {
+    fn take_back_rows(&mut self, rows: &[FlowRow]) -> Option<()> {
         for place in 0..self.changed.count() {
             let row = self.changed.at(place)?;
             *self.rows.get_mut(row as usize)? = rows.get(row as usize).copied()?;
@@ -151,7 +151,7 @@ impl Basis {
     }
 
     /// A row that is going to change.
-    pub(crate) fn row_mut(&mut self, place: u32) -> Option<&mut Row> {
+    pub(crate) fn row_mut(&mut self, place: u32) -> Option<&mut FlowRow> {
         if !self.changed.has(place) {
             self.changed.put(place)?;
         }
@@ -200,7 +200,7 @@ impl Basis {
     }
 
     /// The step along a row outside the tree that costs less than nothing, and what it costs.
-    fn paying(&self, place: u32) -> Option<(i64, Step)> {
+    fn paying(&self, place: u32) -> Option<(i64, PivotStep)> {
         let row = self.rows.get(place as usize)?;
         if row.is_basic {
             return None;
@@ -211,7 +211,7 @@ impl Basis {
         }
         Some((
             cost,
-            Step {
+            PivotStep {
                 row: place,
                 forward,
                 cost,
@@ -254,7 +254,7 @@ impl Basis {
 
     /// The step that costs least along so many listed rows, less than nothing, from the row that is looked at next and past
     /// the end of the list from its first row; rows along which no step pays are taken off the list.
-    fn least_of(&mut self, most: u32) -> Option<Step> {
+    fn least_of(&mut self, most: u32) -> Option<PivotStep> {
         let mut least = 0;
         let mut found = None;
         for _ in 0..most {
@@ -276,7 +276,7 @@ impl Basis {
     }
 
     /// The step that costs least along the rows of the first block that has a row along which a step pays.
-    fn least_of_block(&mut self) -> Option<Step> {
+    fn least_of_block(&mut self) -> Option<PivotStep> {
         let blocks = (self.violated.count() / BLOCK).saturating_add(1);
         for _ in 0..blocks {
             let block = self.violated.count().min(BLOCK);
@@ -289,7 +289,7 @@ impl Basis {
 
     /// A step that costs less than nothing, the one that costs least where few rows are listed. None where there is no such
     /// step.
-    pub(crate) fn entering(&mut self) -> Option<Step> {
+    pub(crate) fn entering(&mut self) -> Option<PivotStep> {
         if self.is_stale {
             self.note_all();
         }
@@ -404,7 +404,7 @@ impl Basis {
     }
 
     /// The same, and the row as it is then.
-    fn exchanged(&mut self, place: u32, slopes: Slopes) -> Option<Row> {
+    fn exchanged(&mut self, place: u32, slopes: Slopes) -> Option<FlowRow> {
         let before = self.rows.get(place as usize)?.cost();
         let row = self.row_mut(place)?;
         row.slopes = slopes;

@@ -1,6 +1,6 @@
 //! The best basis of a leaf.
 
-use crate::basis::{Basis, Ended};
+use crate::basis::{Basis, PivotEnd};
 use pesp_forest::{Cycles, Frame};
 use pesp_problem::Pair;
 use std::alloc::{AllocError, Global};
@@ -17,7 +17,7 @@ pub fn settle(
     slacks: &[(u32, u32)],
     offsets: &[(i64, i64)],
     pairs: &[Pair],
-) -> Result<Option<Ended>, AllocError> {
+) -> Result<Option<PivotEnd>, AllocError> {
     if basis.set_ranges(frame, cycles, slacks, offsets).is_none() {
         return Ok(None);
     }

@@ -1,26 +1,26 @@
 //! How a basis differs from the one that it was the same as.
 
 use crate::basis::Basis;
-use crate::row::Row;
+use crate::row::FlowRow;
 use std::alloc::AllocError;
 
 /// A row as it was changed.
 #[derive(Clone, Copy)]
-pub struct Change {
+pub struct RowChange {
     place: u32,
-    row: Row,
+    row: FlowRow,
 }
 
 impl Basis {
     /// The change at a place of the list of rows that have changed.
-    fn change(&self, at: u32) -> Option<Change> {
+    fn change(&self, at: u32) -> Option<RowChange> {
         let place = self.changed.at(at)?;
         let row = self.rows.get(place as usize).copied()?;
-        Some(Change { place, row })
+        Some(RowChange { place, row })
     }
 
     /// The rows that have changed since the basis was the same as another one, in place of those of a list.
-    pub fn put_changes(&self, changes: &mut Vec<Change>) -> Result<(), AllocError> {
+    pub fn put_changes(&self, changes: &mut Vec<RowChange>) -> Result<(), AllocError> {
         changes.clear();
         for at in 0..self.changed.count() {
             if let Some(change) = self.change(at) {
@@ -31,7 +31,7 @@ impl Basis {
     }
 
     /// Changes rows as they are listed, and neither prices nor the tree.
-    pub fn change_rows(&mut self, changes: &[Change]) -> Option<()> {
+    pub fn change_rows(&mut self, changes: &[RowChange]) -> Option<()> {
         for change in changes {
             *self.row_mut(change.place)? = change.row;
         }

@@ -2,8 +2,7 @@
 
 use crate::basis::Basis;
 use crate::row::Bend;
-use pesp_forest::{Frame, grow_all};
-use pesp_search_tools::Groups;
+use pesp_forest::{Frame, Groups, grow_all};
 use std::alloc::{AllocError, Global};
 
 impl Basis {

@@ -13,8 +13,8 @@ mod root;
 mod row;
 mod saved_basis;
 
-pub use basis::{Basis, Ended};
+pub use basis::{Basis, PivotEnd};
 pub use best_leaf::{MOST_PIVOTS, settle};
-pub use changes::Change;
+pub use changes::RowChange;
 pub use root::{Root, root_slacks};
 pub use row::{Slopes, slopes_of};

@@ -1,20 +1,20 @@
 //! Lists in which each row stands at most once.
 
-use pesp_search_tools::guarded::{number, set_number};
+use pesp_forest::guarded::{number, set_number};
 use std::alloc::{AllocError, Global};
 
 /// Some of so many rows.
 #[derive(Drop)]
-pub(crate) struct Listed {
+pub(crate) struct RowSet {
     list: Vec<u32>,
     count: u32,
     is_in: Vec<bool>,
 }
 
-impl Listed {
+impl RowSet {
     /// None of so many rows.
-    pub(crate) fn none(alloc: Global, rows: usize) -> Result<Listed, AllocError> {
-        Ok(Listed {
+    pub(crate) fn none(alloc: Global, rows: usize) -> Result<RowSet, AllocError> {
+        Ok(RowSet {
             list: vec![in alloc; 0u32; rows]?,
             count: 0,
             is_in: vec![in alloc; false; rows]?,
@@ -64,7 +64,7 @@ impl Listed {
     }
 
     /// Takes over the rows of another list.
-    pub(crate) fn copy_from(&mut self, other: &Listed) -> Option<()> {
+    pub(crate) fn copy_from(&mut self, other: &RowSet) -> Option<()> {
         self.clear()?;
         for place in 0..other.count {
             self.put(other.at(place)?)?;

@@ -1,13 +1,13 @@
 //! Pivots (Cunningham 1976: strongly feasible trees).
 
-use crate::basis::{Basis, Ended};
-use crate::row::{FREE, Step};
+use crate::basis::{Basis, PivotEnd};
+use crate::row::{FREE, PivotStep};
 use pesp_forest::{Frame, NONE};
 
 /// A closed way: a step, from where it ends up to an event of the tree, and from there down to where it begins.
 #[derive(Clone, Copy)]
-struct Round {
-    step: Step,
+struct ClosedWay {
+    step: PivotStep,
     from: u32,
     to: u32,
     top: u32,
@@ -24,12 +24,12 @@ struct Room {
 #[derive(Clone, Copy)]
 enum Pivot {
     Done,
-    Endless(Round),
+    Endless(ClosedWay),
 }
 
 impl Basis {
     /// The closed way of a step.
-    fn round(&self, step: Step) -> Option<Round> {
+    fn round(&self, step: PivotStep) -> Option<ClosedWay> {
         let row = self.rows.get(step.row as usize)?;
         let (from, to) = if step.forward {
             (row.tail, row.head)
@@ -37,7 +37,7 @@ impl Basis {
             (row.head, row.tail)
         };
         let top = self.tree.meeting(from, to)?;
-        Some(Round {
+        Some(ClosedWay {
             step,
             from,
             to,
@@ -46,7 +46,7 @@ impl Basis {
     }
 
     /// The room down to where a step begins, at the lowest of the rows that have least.
-    fn room_down(&self, round: Round) -> Option<Room> {
+    fn room_down(&self, round: ClosedWay) -> Option<Room> {
         let mut room = Room {
             event: NONE,
             units: FREE,
@@ -68,7 +68,7 @@ impl Basis {
     }
 
     /// The room up from where a step ends, at the highest of the rows that have least.
-    fn room_up(&self, round: Round) -> Option<Room> {
+    fn room_up(&self, round: ClosedWay) -> Option<Room> {
         let mut room = Room {
             event: NONE,
             units: FREE,
@@ -116,7 +116,7 @@ impl Basis {
     }
 
     /// So many units more along a closed way.
-    fn send(&mut self, round: Round, units: i64) -> Option<()> {
+    fn send(&mut self, round: ClosedWay, units: i64) -> Option<()> {
         if units == 0 {
             return Some(());
         }
@@ -126,7 +126,7 @@ impl Basis {
     }
 
     /// Notes by how much the circulation becomes cheaper where so many units more go along a step's closed way.
-    fn note_fall(&mut self, step: Step, units: i64) {
+    fn note_fall(&mut self, step: PivotStep, units: i64) {
         let cost = i128::from(step.cost).saturating_mul(i128::from(units));
         self.fall = self.fall.saturating_sub(cost);
     }
@@ -153,7 +153,7 @@ impl Basis {
 
     /// Sends what a step's closed way takes, and takes the step's row into the tree in place of the last one along the way
     /// that takes no more.
-    fn pivot(&mut self, frame: &Frame, step: Step) -> Option<Pivot> {
+    fn pivot(&mut self, frame: &Frame, step: PivotStep) -> Option<Pivot> {
         let round = self.round(step)?;
         let row = self.row_mut(step.row)?;
         row.part = row.part_of(step.forward);
@@ -178,7 +178,7 @@ impl Basis {
     }
 
     /// No flow but one unit along a closed way.
-    fn keep_only(&mut self, round: Round) -> Option<()> {
+    fn keep_only(&mut self, round: ClosedWay) -> Option<()> {
         for place in 0..self.rows.len() {
             self.row_mut(u32::try_from(place).ok()?)?.flow = 0;
         }
@@ -187,44 +187,45 @@ impl Basis {
 
     /// Makes the circulation cheaper by so many pivots at most, and ends where it has become as much cheaper as is enough; the
     /// closed way of the first step that has no end, where there is one.
-    fn run(&mut self, frame: &Frame, most: u32, enough: i128) -> Result<Ended, Round> {
+    fn run(&mut self, frame: &Frame, most: u32, enough: i128) -> Result<PivotEnd, ClosedWay> {
         for _ in 0..most {
             if self.fall >= enough {
-                return Ok(Ended::Open);
+                return Ok(PivotEnd::Open);
             }
             let Some(step) = self.entering() else {
-                return Ok(Ended::Best);
+                return Ok(PivotEnd::Best);
             };
             match self.pivot(frame, step) {
                 Some(Pivot::Done) => {}
                 Some(Pivot::Endless(round)) => return Err(round),
-                None => return Ok(Ended::Open),
+                None => return Ok(PivotEnd::Open),
             }
         }
-        Ok(Ended::Open)
+        Ok(PivotEnd::Open)
     }
 
     /// Makes the circulation cheaper by so many pivots at most. Where it ends `Endless` the flow is one unit along a closed
     /// way that costs less than nothing, and the basis is no longer one.
-    pub fn solve(&mut self, frame: &Frame, most: u32) -> Ended {
+    pub fn solve(&mut self, frame: &Frame, most: u32) -> PivotEnd {
         self.solve_within(frame, most, i128::MAX)
     }
 
     /// The same, and it ends `Open` where the circulation has become as much cheaper as is enough since the basis was the same
     /// as another one.
-    pub fn solve_within(&mut self, frame: &Frame, most: u32, enough: i128) -> Ended {
+    pub fn solve_within(&mut self, frame: &Frame, most: u32, enough: i128) -> PivotEnd {
         match self.run(frame, most, enough) {
             Ok(ended) => ended,
             Err(round) => match self.keep_only(round) {
-                Some(()) => Ended::Endless,
-                None => Ended::Open,
+                Some(()) => PivotEnd::Endless,
+                None => PivotEnd::Open,
             },
         }
     }
 
     /// Makes the circulation cheaper by so many pivots at most. Where it ends `Endless` the circulation and its basis are
     /// those that the pivots led to.
-    pub fn approach(&mut self, frame: &Frame, most: u32) -> Ended {
-        self.run(frame, most, i128::MAX).unwrap_or(Ended::Endless)
+    pub fn approach(&mut self, frame: &Frame, most: u32) -> PivotEnd {
+        self.run(frame, most, i128::MAX)
+            .unwrap_or(PivotEnd::Endless)
     }
 }

@@ -2,9 +2,9 @@
 
 use crate::basis::Basis;
 use crate::row::slopes_of;
+use pesp_forest::guarded::{amount, set_amount};
 use pesp_forest::{Cycles, Frame};
 use pesp_problem::Pair;
-use pesp_search_tools::guarded::{amount, set_amount};
 use std::alloc::{AllocError, Global};
 
 /// Adds to the amount at a place.

@@ -1,8 +1,8 @@
 //! The ranges of a network's root.
 
-use crate::basis::{Basis, Ended};
+use crate::basis::{Basis, PivotEnd};
 use crate::best_leaf::settle;
-use pesp_forest::{Cycles, Forest, Frame, Spans};
+use pesp_forest::{Cycles, Frame, RowForest, Spans};
 use std::alloc::{AllocError, Global};
 
 /// A forest's cycles with sums of durations along it, and the offsets that the root leaves to each cycle.
@@ -54,7 +54,7 @@ fn summed(
     frame: &Frame,
     numbers: &[u32],
 ) -> Result<Option<(Cycles, Spans)>, AllocError> {
-    let Some(forest) = Forest::new(alloc, frame, numbers)? else {
+    let Some(forest) = RowForest::new(alloc, frame, numbers)? else {
         return Ok(None);
     };
     match Spans::new(alloc, frame, &forest) {
@@ -103,7 +103,7 @@ impl Root {
             ..
         } = self;
         match settle(alloc, frame, cycles, &mut basis, &slacks, offsets, &[]) {
-            Ok(Some(Ended::Best)) => Ok(Some(basis)),
+            Ok(Some(PivotEnd::Best)) => Ok(Some(basis)),
             Ok(_) => {
                 drop(basis);
                 Ok(None)

@@ -36,7 +36,7 @@ pub(crate) const FREE: i64 = i64::MAX;
 
 /// A part of a row's cost between its bends.
 #[derive(Clone, Copy)]
-pub(crate) enum Part {
+pub(crate) enum CostPiece {
     Below,
     Between,
     Above,
@@ -53,20 +53,20 @@ pub(crate) enum Bend {
 /// A row with its flow from tail to head. A row of the basis has the part that its flow lies in, another one the bend at
 /// which its flow is, or, where that is neither, the part too.
 #[derive(Clone, Copy)]
-pub(crate) struct Row {
+pub(crate) struct FlowRow {
     pub(crate) slopes: Slopes,
     pub(crate) weight: i64,
     pub(crate) flow: i64,
     pub(crate) tail: u32,
     pub(crate) head: u32,
-    pub(crate) part: Part,
+    pub(crate) part: CostPiece,
     pub(crate) bend: Bend,
     pub(crate) is_basic: bool,
 }
 
 /// More flow along a row that isn't in the basis, or less, and what a unit costs.
 #[derive(Clone, Copy)]
-pub(crate) struct Step {
+pub(crate) struct PivotStep {
     pub(crate) row: u32,
     pub(crate) forward: bool,
     pub(crate) cost: i64,
@@ -74,36 +74,36 @@ pub(crate) struct Step {
 
 impl Slopes {
     /// The slope of a part.
-    pub(crate) fn of(&self, part: Part) -> i64 {
+    pub(crate) fn of(&self, part: CostPiece) -> i64 {
         match part {
-            Part::Below => self.below,
-            Part::Between => self.between,
-            Part::Above => self.above,
+            CostPiece::Below => self.below,
+            CostPiece::Between => self.between,
+            CostPiece::Above => self.above,
         }
     }
 }
 
-impl Row {
+impl FlowRow {
     /// The part into which more flow leads from the row's bend.
-    pub(crate) fn part_ahead(&self) -> Part {
+    pub(crate) fn part_ahead(&self) -> CostPiece {
         match self.bend {
             Bend::Neither => self.part,
-            Bend::Zero if self.weight > 0 => Part::Between,
-            _ => Part::Above,
+            Bend::Zero if self.weight > 0 => CostPiece::Between,
+            _ => CostPiece::Above,
         }
     }
 
     /// The part into which less flow leads from the row's bend.
-    pub(crate) fn part_behind(&self) -> Part {
+    pub(crate) fn part_behind(&self) -> CostPiece {
         match self.bend {
             Bend::Neither => self.part,
-            Bend::Weight if self.weight > 0 => Part::Between,
-            _ => Part::Below,
+            Bend::Weight if self.weight > 0 => CostPiece::Between,
+            _ => CostPiece::Below,
         }
     }
 
     /// The part into which a step leads.
-    pub(crate) fn part_of(&self, forward: bool) -> Part {
+    pub(crate) fn part_of(&self, forward: bool) -> CostPiece {
         if forward {
             self.part_ahead()
         } else {
@@ -114,10 +114,10 @@ impl Row {
     /// How much more flow, or less, the row's part takes.
     pub(crate) fn room(&self, more: bool) -> i64 {
         match (self.part, more) {
-            (Part::Below, true) => 0i64.saturating_sub(self.flow),
-            (Part::Between, true) => self.weight.saturating_sub(self.flow),
-            (Part::Between, false) => self.flow,
-            (Part::Above, false) => self.flow.saturating_sub(self.weight),
+            (CostPiece::Below, true) => 0i64.saturating_sub(self.flow),
+            (CostPiece::Between, true) => self.weight.saturating_sub(self.flow),
+            (CostPiece::Between, false) => self.flow,
+            (CostPiece::Above, false) => self.flow.saturating_sub(self.weight),
             _ => FREE,
         }
     }
@@ -125,8 +125,8 @@ impl Row {
     /// The bend to which the flow comes in its part as it grows, or as it falls.
     pub(crate) fn bend_at(&self, more: bool) -> Bend {
         match (self.part, more) {
-            (Part::Below, true) => Bend::Zero,
-            (Part::Between, false) => Bend::Zero,
+            (CostPiece::Below, true) => Bend::Zero,
+            (CostPiece::Between, false) => Bend::Zero,
             _ => Bend::Weight,
         }
     }
@@ -159,17 +159,17 @@ impl Row {
     }
 
     /// The part of a row of the basis whose flow may also be at a bend; then the part in which the flow can grow upwards.
-    pub(crate) fn part_upwards(&self, leads_up: bool) -> Part {
+    pub(crate) fn part_upwards(&self, leads_up: bool) -> CostPiece {
         if self.flow < 0 {
-            return Part::Below;
+            return CostPiece::Below;
         }
         if self.flow > self.weight {
-            return Part::Above;
+            return CostPiece::Above;
         }
         match (leads_up, self.flow == 0, self.flow == self.weight) {
-            (true, _, true) => Part::Above,
-            (false, true, _) => Part::Below,
-            _ => Part::Between,
+            (true, _, true) => CostPiece::Above,
+            (false, true, _) => CostPiece::Below,
+            _ => CostPiece::Between,
         }
     }
 

@@ -1,13 +1,13 @@
 //! Bases written down in half a byte a row, and read again: so the leaf of a node that was looked at before needs no pivot.
 
 use crate::basis::Basis;
-use crate::row::{Bend, Part, Row};
+use crate::row::{Bend, CostPiece, FlowRow};
+use pesp_forest::guarded::{amount, set_amount};
 use pesp_forest::{Frame, NONE, grow_all};
-use pesp_search_tools::guarded::{amount, set_amount};
 use std::alloc::{AllocError, Global};
 
 /// Half a byte for a row: for one of the basis the part of its flow, for another one the bend; None where its flow is at none.
-fn code_of(row: &Row) -> Option<u8> {
+fn code_of(row: &FlowRow) -> Option<u8> {
     if !row.is_basic {
         return match row.bend {
             Bend::Zero => Some(3),
@@ -16,18 +16,18 @@ fn code_of(row: &Row) -> Option<u8> {
         };
     }
     match row.part {
-        Part::Below => Some(0),
-        Part::Between => Some(1),
-        Part::Above => Some(2),
+        CostPiece::Below => Some(0),
+        CostPiece::Between => Some(1),
+        CostPiece::Above => Some(2),
     }
 }
 
 /// The part of a row of the basis.
-fn part_of(code: u8) -> Part {
+fn part_of(code: u8) -> CostPiece {
     match code {
-        0 => Part::Below,
-        1 => Part::Between,
-        _ => Part::Above,
+        0 => CostPiece::Below,
+        1 => CostPiece::Between,
+        _ => CostPiece::Above,
     }
 }
 
@@ -48,7 +48,7 @@ fn arrive(arriving: &mut [i64], event: u32, units: i64) -> Option<()> {
 }
 
 /// Adds what the flow on a row brings to its ends.
-fn bring(arriving: &mut [i64], row: &Row) -> Option<()> {
+fn bring(arriving: &mut [i64], row: &FlowRow) -> Option<()> {
     if row.flow == 0 {
         return Some(());
     }

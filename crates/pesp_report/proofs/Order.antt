@@ -15,7 +15,7 @@ use Rattle.csv.specs.Writing.{default_writer, row_text}
 use Rattle.pesp_problem.specs.Limits.{IsLabel, KeepsLimits, RowKeepsLimits}
 use Rattle.pesp_problem.specs.Timetables.{Pesp, no_row, row_at, slack}
 use Rattle.pesp_problem.specs.declared.row.Row.{Row}
-use Rattle.pesp_report.specs.Report.{goes_before, label_at, line_of, lines_of, records_text}
+use Rattle.pesp_report.specs.Report.{goes_before, label_at, line_of_row, report_lines, records_text}
 use Rattle.pesp_report.specs.declared.line.Line.{Line}
 
 -- the order of the keys by which the lines are sorted
@@ -41,7 +41,7 @@ pub line-is : (p : Pesp) (times : List ℕ) (place : ℕ) → KeepsLimits p → 
       weight = (row_at p.rows place).weight;
       weighted = (row_at p.rows place).weight * slack p.period times (row_at p.rows place);
     })
-    (line_of p times (place + 1, row_at p.rows place))
+    (line_of_row p times (place + 1, row_at p.rows place))
 line-is p times place limits there small =
     let r : Row = row_at p.rows place in
     let k = All-get_or (RowKeepsLimits (length p.events)) p.rows place no_row there limits.each in
@@ -66,20 +66,20 @@ length-mapped f [] = refl
 length-mapped f (x ∷ xs) = ap suc (length-mapped f xs)
 
 -- so many lines as rows
-pub length-lines : (p : Pesp) (times : List ℕ) → length (lines_of p times) ≡ length p.rows
-length-lines p times = length-mapped (line_of p times) (enumerate_from 1 p.rows) ∙ length-enumerate_from 1 p.rows
+pub length-lines : (p : Pesp) (times : List ℕ) → length (report_lines p times) ≡ length p.rows
+length-lines p times = length-mapped (line_of_row p times) (enumerate_from 1 p.rows) ∙ length-enumerate_from 1 p.rows
 
 -- one more line
 pub lines-more : (p : Pesp) (times : List ℕ) (i : ℕ) → i < length p.rows
-    → take (i + 1) (lines_of p times) ≡ take i (lines_of p times) ++ line_of p times (i + 1, row_at p.rows i) ∷ []
+    → take (i + 1) (report_lines p times) ≡ take i (report_lines p times) ++ line_of_row p times (i + 1, row_at p.rows i) ∷ []
 lines-more p times i there =
     let d : ℕ × Row = (0, no_row) in
-    let here : i < length (lines_of p times) = omega (arith, length-lines p times, there) in
+    let here : i < length (report_lines p times) = omega (arith, length-lines p times, there) in
     let number : (1 + i) ≡ i + 1 = omega arith in
-    let at = get_or-map (line_of p times) (enumerate_from 1 p.rows) i d
-    ∙ ap (line_of p times) (get_or-enumerate_from 1 p.rows i d there
+    let at = get_or-map (line_of_row p times) (enumerate_from 1 p.rows) i d
+    ∙ ap (line_of_row p times) (get_or-enumerate_from 1 p.rows i d there
     ∙ ap (λ (n : ℕ). (n, row_at p.rows i)) number) in
-    take_more (lines_of p times) i (line_of p times d) here ∙ ap (λ (l : Line). take i (lines_of p times) ++ l ∷ []) at
+    take_more (report_lines p times) i (line_of_row p times d) here ∙ ap (λ (l : Line). take i (report_lines p times) ++ l ∷ []) at
 
 flat_map-last : {A : Type 0} (f : A → List ℕ) (xs : List A) (x : A) → flat_map f (xs ++ x ∷ []) ≡ flat_map f xs ++ f x
 flat_map-last f [] x = append-nil (f x)

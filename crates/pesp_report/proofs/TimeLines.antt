@@ -5,7 +5,7 @@ use Rattle.std.specs.List.{enumerate_from}
 use Rattle.std.proofs.lemmas.List.Elements.{All-push, All-nil}
 use Rattle.std.proofs.lemmas.List.Splits.{length-slice_split}
 use Rattle.std.proofs.lemmas.List.Sums.{count_by-le-length}
-use Rattle.pesp_text.specs.Words.{but_empty_end, is_byte, lines_of_text, pieces}
+use Rattle.pesp_stream.specs.Words.{but_empty_end, is_byte, lines_of_text, pieces}
 use Rattle.pesp_report.specs.TimesText.{behind, names_a_time, time_at, time_for, time_lines, times_for}
 use Rattle.pesp_report.specs.declared.refusal.TimesRefusal.{TimesRefusal}
 use Rattle.pesp_report.specs.declared.refusal.TimesRefusal.TheVariants.{BadLine, WrongCount}

@@ -7,9 +7,9 @@ use Rattle.std.specs.List.{enumerate_from}
 use Rattle.std.specs.Fmt.{decimal, signed_decimal}
 use Rattle.std.proofs.lemmas.Int.{ints}
 use Rattle.std.proofs.Common.{arith}
-use Rattle.pesp_text.specs.Number.{natural_of, whole_of}
-use Rattle.pesp_text.specs.Words.{lines_of_text, words_of}
-use Rattle.pesp_text.proofs.Digits.{natural_iff, whole_spells}
+use Rattle.pesp_stream.specs.Number.{natural_of, whole_of}
+use Rattle.pesp_stream.specs.Words.{lines_of_text, words_of}
+use Rattle.pesp_stream.proofs.Digits.{natural_iff, whole_spells}
 use Rattle.pesp_report.specs.TimesText.{TellTimes, behind, below_period, is_label, names_a_time, time_lines, time_of_words, times_for}
 use Rattle.pesp_report.specs.declared.refusal.TimesRefusal.{TimesRefusal}
 use Rattle.pesp_report.specs.declared.refusal.TimesRefusal.TheVariants.{BadLine}

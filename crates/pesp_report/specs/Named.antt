@@ -1,7 +1,7 @@
 -- The report of a timetable with the names of the events.
 use Rattle.std.specs.Prelude.{◌≡◌, ℕ, ℤ, List, [], ◌∷◌, ◌++◌, map, codes, IsPermutation, IsSortedBy}
 use Rattle.pesp_problem.specs.Timetables.{Pesp, cost}
-use Rattle.pesp_report.specs.Report.{goes_before, header, line_fields, lines_of, records_text, slack_sum, total_fields}
+use Rattle.pesp_report.specs.Report.{goes_before, header, line_fields, report_lines, records_text, slack_sum, total_fields}
 use Rattle.pesp_report.specs.declared.line.Line.{Line}
 
 -- the fields of a report, and behind them the names of the two events
@@ -23,6 +23,6 @@ named_text name lines slacks total = records_text (named_header ∷ (map (named_
 -- a text is the report of times with names: the lines and sums of the report, each line with the names of its events
 pub record IsNamedReport (p : Pesp) (times : List ℕ) (name : ℤ → List ℕ) (text : List ℕ) : Type 0 where
   pub lines : List Line
-  pub all : IsPermutation (lines_of p times) lines
+  pub all : IsPermutation (report_lines p times) lines
   pub falling : IsSortedBy goes_before lines
   pub whole : text ≡ named_text name lines (slack_sum p times) (cost p.period p.rows times)

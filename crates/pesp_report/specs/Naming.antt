@@ -11,8 +11,8 @@ told_at entries None = None
 told_at entries (Some place) = slice_get entries place
 
 -- what is told of the event with this label, if something is
-abbrev pub told_of : Names → ℤ → Option Name
-told_of names event = told_at names.entries.items (get int_eq names.places event)
+abbrev pub entry_told_of : Names → ℤ → Option Name
+entry_told_of names event = told_at names.entries.items (get int_eq names.places event)
 
 -- how far a station is, where a record tells it
 abbrev pub distance_by : List ℕ → Name → Option ℕ
@@ -39,7 +39,7 @@ bytes_of (Some name) = string_bytes name.name
 
 -- the name of the event with this label, as bytes
 abbrev pub name_of : Names → ℤ → List ℕ
-name_of names event = bytes_of (told_of names event)
+name_of names event = bytes_of (entry_told_of names event)
 
 -- what events are called, where names are told
 abbrev pub naming_of : Option Names → Option (ℤ → List ℕ)

@@ -12,8 +12,8 @@ abbrev pub label_at : List ℤ → ℕ → ℤ
 label_at events place = slice_index_or events place (pos 0)
 
 -- what the report tells of a row and its number
-abbrev pub line_of : Pesp → List ℕ → ℕ × Row → Line
-line_of p times (number, row) = record {
+abbrev pub line_of_row : Pesp → List ℕ → ℕ × Row → Line
+line_of_row p times (number, row) = record {
   row = number;
   label = row.label;
   tail = label_at p.events row.tail;
@@ -25,8 +25,8 @@ line_of p times (number, row) = record {
 }
 
 -- one line for each row, numbered from 1
-abbrev pub lines_of : Pesp → List ℕ → List Line
-lines_of p times = map (line_of p times) (enumerate_from 1 p.rows)
+abbrev pub report_lines : Pesp → List ℕ → List Line
+report_lines p times = map (line_of_row p times) (enumerate_from 1 p.rows)
 
 -- the line of the greater weighted slack goes first, and of equal ones that of the lesser row number
 abbrev pub goes_before : Line → Line → Bool
@@ -62,6 +62,6 @@ report_text lines slacks total = records_text (header ∷ (map line_fields lines
 -- a text is the report of times: the header, the lines of all rows in their order, and the total
 pub record IsReport (p : Pesp) (times : List ℕ) (text : List ℕ) : Type 0 where
   pub lines : List Line
-  pub all : IsPermutation (lines_of p times) lines
+  pub all : IsPermutation (report_lines p times) lines
   pub falling : IsSortedBy goes_before lines
   pub whole : text ≡ report_text lines (slack_sum p times) (cost p.period p.rows times)

@@ -4,8 +4,8 @@ use Rattle.std.specs.List.{enumerate_from, starts_with}
 use Rattle.std.specs.Ordering.{int_eq}
 use Rattle.std.specs.Fmt.{decimal, signed_decimal}
 use Rattle.pesp_problem.specs.Timetables.{Pesp}
-use Rattle.pesp_text.specs.Number.{natural_of, whole_of}
-use Rattle.pesp_text.specs.Words.{lines_of_text, words_of}
+use Rattle.pesp_stream.specs.Number.{natural_of, whole_of}
+use Rattle.pesp_stream.specs.Words.{lines_of_text, words_of}
 use Rattle.pesp_report.specs.declared.refusal.TimesRefusal.{TimesRefusal}
 use Rattle.pesp_report.specs.declared.refusal.TimesRefusal.TheVariants.{BadLine, WrongCount}
 
@@ -67,8 +67,8 @@ times_for period (event ∷ events) (line ∷ lines) =
     behind (time_of_words period event (words_of line.1)) (BadLine line.0) (times_for period events lines)
 
 -- the times that a text gives to the events
-abbrev pub times_of : Pesp → List ℕ → Result (List ℕ) TimesRefusal
-times_of p text = times_for p.period p.events (time_lines text)
+abbrev pub times_from_text : Pesp → List ℕ → Result (List ℕ) TimesRefusal
+times_from_text p text = times_for p.period p.events (time_lines text)
 
 -- these lines give these events these times, one after another, as `time LABEL TIME`
 abbrev pub TellTimes : List ℤ → List ℕ → List (ℕ × List ℕ) → Type 0

@@ -1,7 +1,7 @@
 //! The names of events.
 
 ghost use Rattle.std.specs.Prelude.{◌≡◌, option_copied};
-ghost use Rattle.pesp_report.specs.Naming.{told_of, distance_by, distance_among};
+ghost use Rattle.pesp_report.specs.Naming.{entry_told_of, distance_by, distance_among};
 ghost use Rattle.pesp_report.specs.Naming as spec;
 
 use indexmap::IndexMap;
@@ -71,7 +71,7 @@ impl Names {
 
     /// What is told of the event with this label.
     pub fn find(&self, event: i64) -> Option<&Name>
-        ensures { option_copied result ≡ told_of self.now event }
+        ensures { option_copied result ≡ entry_told_of self.now event }
     {
         let place = self.places.get(&event)?;
         self.entries.get(*place)

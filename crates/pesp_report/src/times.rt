@@ -2,14 +2,14 @@
 
 ghost use Rattle.std.specs.Prelude.{◌≡◌, ◌⊎◌, ◌<◌, Ok, Err, IfOk, IfErr, IfSome};
 ghost use Rattle.pesp_problem.specs.Timetables.{AreTimes};
-ghost use Rattle.pesp_text.specs.Words.{words_of};
-ghost use Rattle.pesp_report.specs.TimesText.{TellTimes, time_lines, time_of_words, times_of};
+ghost use Rattle.pesp_stream.specs.Words.{words_of};
+ghost use Rattle.pesp_report.specs.TimesText.{TellTimes, time_lines, time_of_words, times_from_text};
 ghost use Rattle.pesp_report.specs.TimesText as spec;
 ghost use Rattle.pesp_report.specs.declared.refusal.TimesRefusal.TheVariants.{Memory};
 
 use crate::refusal::TimesRefusal;
 use pesp_problem::Instance;
-use pesp_text::{Lines, Words, natural, whole};
+use pesp_stream::{Lines, Words, natural, whole};
 use std::alloc::Global;
 
 /// Reads one time for each event, in the order of the events. Each line that begins with `time ` is read as
@@ -18,13 +18,13 @@ use std::alloc::Global;
 /// The first line of these that does not give the next event a time below the period is told as `BadLine`; `WrongCount`
 /// where the text ends before all events have times. `Memory` may come in place of either.
 pub fn read_times(alloc: Global, instance: &Instance, text: &[u8]) -> Result<Vec<u32>, TimesRefusal>
-    ensures exact { IfOk result (λ times. times_of instance.now text.now ≡ Ok times.items) }
+    ensures exact { IfOk result (λ times. times_from_text instance.now text.now ≡ Ok times.items) }
     ensures times { IfOk result (λ times. AreTimes instance.now times.items) }
 
     // The lines that begin with `time ` name the events in order, with these times.
     ensures told { IfOk result
         (λ times. TellTimes instance.now.events times.items (time_lines text.now)) }
-    ensures refused { IfErr result (λ e. (e ≡ Memory) ⊎ (times_of instance.now text.now ≡ Err e)) }
+    ensures refused { IfErr result (λ e. (e ≡ Memory) ⊎ (times_from_text instance.now text.now ≡ Err e)) }
 {
     let period = instance.period();
     let events = instance.events();

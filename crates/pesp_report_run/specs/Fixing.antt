@@ -1,8 +1,8 @@
 -- What the run that fixes events reads and writes, and when it tells which fault.
 use Rattle.std.specs.Prelude.{◌⊎◌, ℕ, List, [], Option, Some, None}
 use Rattle.pesp_problem.specs.Timetables.{Pesp}
-use Rattle.pesp_fix.specs.Fixing.{IsText}
-use Rattle.pesp_fix.specs.declared.refusal.FixRefusal.{FixRefusal}
+use Rattle.pesp_timetable.specs.Fixing.{IsText}
+use Rattle.pesp_timetable.specs.declared.refusal.FixRefusal.{FixRefusal}
 use Rattle.pesp_check_run.specs.Devices.{Device, HasFailed, GetsFront}
 use Rattle.pesp_runs.specs.Reading.{ReadsInstance, ReadsTimes}
 use Rattle.pesp_runs.specs.Causes.{InstanceCause, TimesCause, OutCause}

@@ -5,7 +5,7 @@ use Rattle.pesp_truth.specs.Conflicts.{IsNeeded}
 use Rattle.pesp_search.specs.declared.refusal.SolveRefusal.TheVariants.{Memory as SearchMemory}
 use Rattle.pesp_conflict.specs.Findings.{IsConflict, IsUndecided}
 use Rattle.pesp_conflict.specs.Refusals.{IsConflictRefusal}
-use Rattle.pesp_conflict.specs.Lists.{lines_of, list_text}
+use Rattle.pesp_conflict.specs.Lists.{listed_lines, list_text}
 use Rattle.pesp_check_run.specs.Devices.{Device, HasFailed, GetsFront}
 use Rattle.pesp_runs.specs.Reading.{ReadsInstance}
 use Rattle.pesp_runs.specs.Causes.{InstanceCause, OutCause}
@@ -18,7 +18,7 @@ use Rattle.pesp_report_run.specs.declared.told.Told.TheVariants.{Irreducible, Co
 -- where this is told
 pub record WritesList (p : Pesp) (naming : Option (ℤ → List ℕ)) (rows : List ℕ) (Gets : List ℕ → Type 0) : Type 0 where
   pub conflict : IsConflict p rows
-  pub written : Gets (list_text naming (lines_of p rows))
+  pub written : Gets (list_text naming (listed_lines p rows))
 
 -- a list of so many rows of so many was written, of which each is needed where this is told; or nothing was written,
 -- since some timetable exists, or a search over all rows used these steps and found neither

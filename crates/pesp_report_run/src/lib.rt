@@ -16,7 +16,7 @@ mod violated;
 pub use fixing::run_fix;
 pub use names::read_whole_names;
 pub use run::run_conflict;
-pub use sheet::{Diagrams, NamedReport, Page, Picture, Report, Sheet, Timetable};
+pub use sheet::{Diagrams, HtmlPage, NamedReport, Picture, Report, Sheet, Timetable};
 pub use sheets::{run_report, run_sheet};
 pub use told::{Told, status_of_told};
 pub use violated::run_violations;

@@ -12,7 +12,7 @@ ghost use Rattle.pesp_report_run.specs.Runs.{ConflictCause, TellsConflict, Write
 
 use crate::told::{Told, told_of};
 use pesp_conflict::{Finding, add_sums, conflict, text_of_listed};
-use pesp_finder::TimesFinder;
+use pesp_forest::TimesFinder;
 use pesp_problem::Instance;
 use pesp_report::Names;
 use pesp_runs::{Fault, read_whole_instance};

@@ -8,7 +8,7 @@ ghost use Rattle.pesp_problem.specs.Timetables.{Pesp, IsTimetable};
 ghost use Rattle.pesp_report.specs.Reporting.{IfBlamed, Refuses, UnlessBlamed};
 
 use pesp_diagram::diagram;
-use pesp_draw::{Choice, draw};
+use pesp_draw::{ActivityFilter, draw};
 use pesp_page::{Claim, page};
 use pesp_problem::Instance;
 use pesp_report::{Names, ReportRefusal, report, report_named};
@@ -110,7 +110,7 @@ impl Sheet for Picture<'_> {
         _claim: Claim,
         sink: &mut W,
     ) -> Result<(), ReportRefusal> {
-        let choice = Choice {
+        let choice = ActivityFilter {
             most: self.rows,
             costless: false,
         };
@@ -171,9 +171,9 @@ impl Sheet for Timetable<'_> {
 /// A page in HTML with what the text of the times claims, the timetable, the diagrams and the slack of each activity. What it
 /// shows is not promised.
 #[derive(Clone, Copy)]
-pub struct Page<'a>(pub Option<&'a Names>);
+pub struct HtmlPage<'a>(pub Option<&'a Names>);
 
-impl Sheet for Page<'_> {
+impl Sheet for HtmlPage<'_> {
     ghost use Rattle.std.specs.Prelude.{⊤};
 
     ghost shows = { λ _ _ _ _. ⊤ };

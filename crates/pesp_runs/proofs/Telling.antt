@@ -8,7 +8,7 @@ use Rattle.pesp_search.specs.Refusals.{MeetsLimit}
 use Rattle.pesp_search.specs.Solving.{IsSearchRefusal}
 use Rattle.pesp_search.specs.declared.refusal.SolveRefusal.{SolveRefusal}
 use Rattle.pesp_search.specs.declared.refusal.SolveRefusal.TheVariants.{Memory as SearchMemory, TableTooLarge, PairsTooMany}
-use Rattle.pesp_report.specs.TimesText.{times_of}
+use Rattle.pesp_report.specs.TimesText.{times_from_text}
 use Rattle.pesp_report.specs.declared.refusal.TimesRefusal.{TimesRefusal}
 use Rattle.pesp_report.specs.declared.refusal.TimesRefusal.TheVariants.{BadLine, WrongCount, Memory as TimesMemory}
 use Rattle.pesp_check_run.specs.declared.fault.VerdictFault.{VerdictFault}
@@ -42,7 +42,7 @@ limit_cause PairsTooMany p steps met = met
 
 -- a refusal of the times' text, or of memory
 pub times_cause : (refusal : TimesRefusal) (told left : Option (List ℕ)) (calls after : Calls) (bytes : List ℕ)
-    (p : Pesp) → ReadsText told left 1073741824 bytes → (refusal ≡ TimesMemory) ⊎ (times_of p bytes ≡ Err refusal)
+    (p : Pesp) → ReadsText told left 1073741824 bytes → (refusal ≡ TimesMemory) ⊎ (times_from_text p bytes ≡ Err refusal)
     → TimesCause (times_fault refusal) (over told left calls after) p
 times_cause TimesMemory told left calls after bytes p read first = tt
 times_cause (BadLine n) told left calls after bytes p read first =

@@ -5,8 +5,8 @@ use Rattle.pesp_judges.specs.declared.refusal.Verdict.TheVariants.{Refused}
 use Rattle.pesp_cert_lines.specs.declared.versions.Versions.TheVariants.{All}
 use Rattle.pesp_cert.specs.Fronted.{Fronted, IsFrontedText}
 use Rattle.pesp_cert.specs.Refusals.{items_of_text}
-use Rattle.pesp_lemma_judges.specs.Faults.{IsVerdictBehind}
-use Rattle.pesp_lemma.specs.Fronts.{IsValidBehind}
+use Rattle.pesp_judges.specs.Faults.{IsVerdict}
+use Rattle.pesp_truth.specs.Certificates.{IsValid}
 use Rattle.pesp_check_run.specs.Devices.{Device, HasFailed}
 use Rattle.pesp_runs.specs.Reading.{ReadsNext}
 use Rattle.pesp_runs.specs.declared.fault.Fault.{Fault}
@@ -18,7 +18,7 @@ ReadsFronted told left base = ReadsNext told left (λ text. IsFrontedText text b
 
 -- it is valid for the instance with its marked walks
 abbrev pub IsSharpBase : Pesp → Fronted → Type 0
-IsSharpBase p base = IsValidBehind base.front p base.content
+IsSharpBase p base = IsValid base.front p base.content
 
 -- both
 abbrev pub ReadsSharpBase : Option (List ℕ) → Option (List ℕ) → Pesp → Fronted → Type 0
@@ -28,7 +28,7 @@ ReadsSharpBase told left p base = ReadsFronted told left base × IsSharpBase p b
 abbrev pub SharpBaseCause : Fault → Device → Pesp → Type 0
 SharpBaseCause (Certificate refusal) reader p = ReadsNext reader.old reader.new (λ bytes. items_of_text All bytes ≡ Err refusal)
 SharpBaseCause (Base refusal) reader p =
-    (base : Fronted) × ReadsFronted reader.old reader.new base × IsVerdictBehind base.front p base.content (Refused refusal)
+    (base : Fronted) × ReadsFronted reader.old reader.new base × IsVerdict base.front p base.content (Refused refusal)
 SharpBaseCause Memory reader p = Unit {0}
 SharpBaseCause Read reader p = HasFailed reader
 SharpBaseCause fault reader p = ⊥

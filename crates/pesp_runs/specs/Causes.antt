@@ -10,7 +10,7 @@ use Rattle.pesp_judges.specs.declared.refusal.Verdict.TheVariants.{Refused}
 use Rattle.pesp_search.specs.Refusals.{MeetsLimit}
 use Rattle.pesp_search.specs.Solving.{IsSearchRefusal}
 use Rattle.pesp_search.specs.declared.refusal.SolveRefusal.TheVariants.{Memory as SearchMemory}
-use Rattle.pesp_report.specs.TimesText.{times_of}
+use Rattle.pesp_report.specs.TimesText.{times_from_text}
 use Rattle.pesp_report.specs.declared.refusal.ReportRefusal.TheVariants.{Violates}
 use Rattle.pesp_check_run.specs.Devices.{Device, HasFailed}
 use Rattle.pesp_runs.specs.Reading.{ReadsNext, ReadsTimes, ReadsCertificate, RefusesInstance}
@@ -26,7 +26,7 @@ InstanceCause fault reader period = ⊥
 
 -- why there are no times: their text, or the reader's device
 abbrev pub TimesCause : Fault → Device → Pesp → Type 0
-TimesCause (Times refusal) reader p = ReadsNext reader.old reader.new (λ bytes. times_of p bytes ≡ Err refusal)
+TimesCause (Times refusal) reader p = ReadsNext reader.old reader.new (λ bytes. times_from_text p bytes ≡ Err refusal)
 TimesCause Memory reader p = Unit {0}
 TimesCause Read reader p = HasFailed reader
 TimesCause fault reader p = ⊥

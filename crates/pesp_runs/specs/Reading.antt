@@ -5,7 +5,7 @@ use Rattle.pesp_stream.specs.Reading.{ReadsText}
 use Rattle.pesp_problem.specs.Timetables.{Pesp, IsTimetable}
 use Rattle.pesp_truth.specs.Certificates.{Content, IsValid}
 use Rattle.pesp_cert.specs.Refusals.{IsTextOf}
-use Rattle.pesp_report.specs.TimesText.{times_of}
+use Rattle.pesp_report.specs.TimesText.{times_from_text}
 pub use Rattle.pesp_check_run.specs.Checking.{ReadsInstance, RefusesInstance}
 
 -- the bytes that were read, at most MOST_TEXT, and what holds of them
@@ -18,7 +18,7 @@ pub record ReadsNext (told left : Option (List ℕ)) (Holds : List ℕ → Type 
 
 -- the bytes that were read give these times to the instance
 abbrev pub ReadsTimes : Option (List ℕ) → Option (List ℕ) → Pesp → List ℕ → Type 0
-ReadsTimes told left p times = ReadsNext told left (λ text. times_of p text ≡ Ok times)
+ReadsTimes told left p times = ReadsNext told left (λ text. times_from_text p text ≡ Ok times)
 
 -- the first text has an instance and the second one a timetable of it, of which this is said
 abbrev pub ReadsTimetable : Option (List ℕ) → Option (List ℕ) → Option (List ℕ) → Option (List ℕ) → ℕ → (Pesp → List ℕ → Type 0) → Type 0

@@ -8,10 +8,10 @@ use Rattle.pesp_problem.specs.declared.row.SignedRow.{SignedRow}
 use Rattle.pesp_reduce.specs.Reductions.{ReducedValue}
 use Rattle.pesp_network.specs.Networks.{arcs_of_network}
 use Rattle.pesp_nodes.specs.Problems.{ProblemValue}
-use Rattle.pesp_machine.specs.States.{BoardValue, opening}
-use Rattle.pesp_machine.specs.Certificates.{IsProblemOf}
-use Rattle.pesp_search_laws.specs.Lifted.{IsReduced, AreLifted, IsFrugal}
-use Rattle.pesp_search_laws.proofs.Tables.{short_table, fewer_rows, count_arcs}
+use Rattle.pesp_tree.specs.States.{BoardValue, opening}
+use Rattle.pesp_tree.specs.Certificates.{IsProblemOf}
+use Rattle.pesp_branching.specs.Lifted.{IsReduced, AreLifted, IsFrugal}
+use Rattle.pesp_branching.proofs.Tables.{short_table, fewer_rows, count_arcs}
 use Rattle.pesp_turns.specs.declared.search.Search.{Search}
 use Rattle.pesp_turns.specs.Knowing.{IsKnown}
 use Rattle.pesp_turns.specs.Settling.{IsSearched}

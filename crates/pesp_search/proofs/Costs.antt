@@ -4,16 +4,16 @@ use Rattle.std.specs.Prelude.{Option, Some, None, option_map}
 use Rattle.pesp_problem.specs.NetTimetables.{net_cost}
 use Rattle.pesp_network.specs.Networks.{KeepsNetLimits}
 use Rattle.pesp_truth.specs.Trees.{Tree}
-use Rattle.pesp_nodes.specs.Problems.{ProblemValue, net_of, IsSmallTable}
-use Rattle.pesp_machine.specs.Leaves.{told, least_value}
-use Rattle.pesp_machine.specs.States.{State, IsAtMost, root_of, best_cost}
-use Rattle.pesp_machine.specs.Reached.{IsKept}
-use Rattle.pesp_machine.specs.Events.{Offer, IsCheaper}
-use Rattle.pesp_machine.proofs.Runs.{best_never_rises}
+use Rattle.pesp_nodes.specs.Problems.{ProblemValue, problem_net, IsSmallTable}
+use Rattle.pesp_tree.specs.BoardLeaves.{told, least_value}
+use Rattle.pesp_tree.specs.States.{State, IsAtMost, root_of, best_cost}
+use Rattle.pesp_tree.specs.Reached.{IsKept}
+use Rattle.pesp_tree.specs.Events.{Offer, IsCheaper}
+use Rattle.pesp_tree.proofs.Runs.{best_never_rises}
 use Rattle.pesp_branching.specs.Offering.{OffersFirst}
-use Rattle.pesp_search_laws.specs.Turns.{IsWorked}
-use Rattle.pesp_search_laws.proofs.Spent.{offered_tree}
-use Rattle.pesp_search_laws.proofs.Turns.{offers}
+use Rattle.pesp_branching.specs.Turns.{IsWorked}
+use Rattle.pesp_branching.proofs.Spent.{offered_tree}
+use Rattle.pesp_branching.proofs.Turns.{offers}
 use Rattle.pesp_search.specs.Rooting.{IsRootBound}
 use Rattle.pesp_search.specs.Searching.{AreOffered, IsAsCheapAs, IsReady}
 use Rattle.pesp_search.proofs.Orders.{at_most_trans}
@@ -33,16 +33,16 @@ not_cheaper c (Some b) h = by_order (order b c)
 
 offered_cheap : (p : ProblemValue) (old new : State) (times : List ℕ) → AreOffered p times old new → IsAsCheapAs p times new
 offered_cheap p old new times (true, o) is =
-    let same : net_cost (net_of p) times ≤ net_cost (net_of p) times = omega arith in
-    subst (λ (s : State). IsAtMost (best_cost p s) (Some (net_cost (net_of p) times))) (sym o.1) same
+    let same : net_cost (problem_net p) times ≤ net_cost (problem_net p) times = omega arith in
+    subst (λ (s : State). IsAtMost (best_cost p s) (Some (net_cost (problem_net p) times))) (sym o.1) same
 offered_cheap p old new times (false, o) is =
-    subst (λ (s : State). IsAtMost (best_cost p s) (Some (net_cost (net_of p) times))) (sym o.1)
-    (not_cheaper (net_cost (net_of p) times) (best_cost p old) (λ cheaper. o.0 (is, cheaper)))
+    subst (λ (s : State). IsAtMost (best_cost p s) (Some (net_cost (problem_net p) times))) (sym o.1)
+    (not_cheaper (net_cost (problem_net p) times) (best_cost p old) (λ cheaper. o.0 (is, cheaper)))
 
 pub still_cheap : (p : ProblemValue) (times : List ℕ) (old new : State)
     → IsAtMost (best_cost p new) (best_cost p old) → IsAsCheapAs p times old → IsAsCheapAs p times new
 still_cheap p times old new less cheap is = at_most_trans (best_cost p new) (best_cost p old)
-    (Some (net_cost (net_of p) times)) less (cheap is)
+    (Some (net_cost (problem_net p) times)) less (cheap is)
 
 no_dearer : (p : ProblemValue) (old new : State) → 0 < p.network.period → IsKept p old → OffersFirst p old new
     → IsAtMost (best_cost p new) (best_cost p old)
@@ -56,7 +56,7 @@ no_dearer p old new h k (between, (times, kept, first), inr (others, also, secon
 -- times that are offered leave the root's bound
 offered_bound : (p : ProblemValue) (old new : State) → new.tree ≡ old.tree → IsRootBound p old → IsRootBound p new
 offered_bound p old new e bound l h = bound l (subst
-    (λ (t : Tree). IsAtMost (option_map told (least_value (net_of p) p.table t (root_of p))) (Some l)) e h)
+    (λ (t : Tree). IsAtMost (option_map told (least_value (problem_net p) p.table t (root_of p))) (Some l)) e h)
 
 pub ready : (p q r : ProblemValue) (first second third : State) (times : List ℕ) → q ≡ p → r ≡ q
     → KeepsNetLimits p.network → IsSmallTable p.table → IsWorked p 0 first → IsRootBound p first

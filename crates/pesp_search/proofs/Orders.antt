@@ -1,7 +1,7 @@
 -- Orders of numbers that may be missing; none stands above every number.
 use Rattle.std.proofs.Common.{ℕ, arith}
 use Rattle.std.specs.Prelude.{Option, Some, None}
-use Rattle.pesp_machine.specs.States.{IsAtMost}
+use Rattle.pesp_tree.specs.States.{IsAtMost}
 
 pub at_most_trans : (a b c : Option ℕ) → IsAtMost a b → IsAtMost b c → IsAtMost a c
 at_most_trans a b None h k = tt

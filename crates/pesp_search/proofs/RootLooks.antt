@@ -15,27 +15,27 @@ use Rattle.pesp_problem.specs.Nodes.{Node, slack_range, root_slacks, weight_of, 
 use Rattle.pesp_network.specs.Networks.{KeepsNetLimits}
 use Rattle.pesp_truth.specs.Trees.{Tree, Leaf, Ends, Shut, ByPropagation, Bound as BoundLeaf, Gap as GapLeaf, Nothing as NothingLeaf}
 use Rattle.pesp_truth.specs.Leaves.{IsLeafAt}
-use Rattle.pesp_nodes.specs.Problems.{ProblemValue, net_of, IsSmallTable}
+use Rattle.pesp_nodes.specs.Problems.{ProblemValue, problem_net, IsSmallTable}
 use Rattle.pesp_bound.specs.declared.leaf.Leaf.{Leaf as Found}
 use Rattle.pesp_bound.specs.declared.leaf.Leaf.TheVariants.{Gap, Nothing, Bound}
 use Rattle.pesp_bound.specs.Leaves.{IsLeafOf, IsNoLess}
-use Rattle.pesp_machine.specs.declared.job.Job.{Job}
-use Rattle.pesp_machine.specs.declared.work.Work.{Work}
-use Rattle.pesp_machine.specs.declared.work.Work.TheVariants as works
-use Rattle.pesp_machine.specs.declared.refusal.LendRefusal.TheVariants as lending
-use Rattle.pesp_machine.specs.Leaves.{told, least_value}
-use Rattle.pesp_machine.specs.States.{State, Ticket, Lent, Given, Recalled, best_cost, opening, IsLent, IsOpen, IsAtMost, root_of, node_at, least}
-use Rattle.pesp_machine.specs.Events.{Lend, Give, Lends, LendsLeaf, Takes, IsValidAt, MayShut}
-use Rattle.pesp_machine.proofs.Works.{pairs_exist}
-use Rattle.pesp_machine.proofs.Runs.{opening_is_orderly, step_is_orderly}
-use Rattle.pesp_search_laws.specs.Rooms.{branches, BranchesLeaveBoth}
-use Rattle.pesp_search_laws.specs.LeafSums.{leaf_sum}
-use Rattle.pesp_search_laws.specs.Turns.{IsWorked, splits_of, counts_open, open_leaves}
-use Rattle.pesp_search_laws.proofs.Turns.{opening_is_worked, looks, closes_by_nothing, closes_by_gap}
-use Rattle.pesp_search_laws.proofs.Ends.{root_sets_least}
-use Rattle.pesp_search_laws.proofs.Replies.{lent_leaf}
-use Rattle.pesp_search_laws.proofs.Singles.{single_small}
-use Rattle.pesp_search_laws.proofs.Sizes.{large_has_many}
+use Rattle.pesp_tree.specs.declared.job.Job.{Job}
+use Rattle.pesp_tree.specs.declared.work.Work.{Work}
+use Rattle.pesp_tree.specs.declared.work.Work.TheVariants as works
+use Rattle.pesp_tree.specs.declared.refusal.LendRefusal.TheVariants as lending
+use Rattle.pesp_tree.specs.BoardLeaves.{told, least_value}
+use Rattle.pesp_tree.specs.States.{State, Ticket, Lent, Given, Recalled, best_cost, opening, IsLent, IsOpen, IsAtMost, root_of, node_at, least}
+use Rattle.pesp_tree.specs.Events.{Lend, Give, Lends, LendsLeaf, Takes, IsValidAt, MayShut}
+use Rattle.pesp_tree.proofs.Works.{pairs_exist}
+use Rattle.pesp_tree.proofs.Runs.{opening_is_orderly, step_is_orderly}
+use Rattle.pesp_branching.specs.Rooms.{branches, BranchesLeaveBoth}
+use Rattle.pesp_branching.specs.LeafSums.{leaf_sum}
+use Rattle.pesp_branching.specs.Turns.{IsWorked, splits_of, counts_open, open_leaves}
+use Rattle.pesp_branching.proofs.Turns.{opening_is_worked, looks, closes_by_nothing, closes_by_gap}
+use Rattle.pesp_branching.proofs.Ends.{root_sets_least}
+use Rattle.pesp_branching.proofs.Replies.{lent_leaf}
+use Rattle.pesp_branching.proofs.Singles.{single_small}
+use Rattle.pesp_branching.proofs.Sizes.{large_has_many}
 use Rattle.pesp_turns.specs.Handing.{IsHandedIn, IsGiven}
 use Rattle.pesp_search.specs.declared.refusal.SolveRefusal.TheVariants.{PairsTooMany}
 use Rattle.pesp_search.specs.Singles.{IsSingle, IsBestSingle}
@@ -167,10 +167,10 @@ shut_root p mid new job l t =
       orderly = step_is_orderly p mid (Give job.number works.Propagated (Ok tt)) new l.limits l.small lent t;
       unlent = λ number lent. none_lent number lent.0
           (subst (λ (xs : List Ticket). slice_index_or xs number Recalled ≡ Lent lent.0) numbers lent.1);
-      both = subst (λ (x : Tree). BranchesLeaveBoth (net_of p) p.table x (root_of p)) (sym tree) tt;
+      both = subst (λ (x : Tree). BranchesLeaveBoth (problem_net p) p.table x (root_of p)) (sym tree) tt;
       count = ap branches tree;
       numbers = few (length new.numbers) (open_leaves p new) (ap length numbers)
-          (ap (λ (x : Tree). leaf_sum (counts_open (net_of p) p.table (best_cost p new)) x (root_of p)) tree);
+          (ap (λ (x : Tree). leaf_sum (counts_open (problem_net p) p.table (best_cost p new)) x (root_of p)) tree);
     }
   where
     few : (a b : ℕ) → a ≡ 1 → b ≡ 0 → a + b ≤ 2 * 0 + 2
@@ -208,9 +208,9 @@ root_refused p mid new job shut leaf l g =
 
 -- a closed root has no bound
 closed_bound : (p : ProblemValue) (new : State) (end : Leaf) → new.tree ≡ Ends end
-    → least_value (net_of p) p.table (Ends end) (root_of p) ≡ None → IsRootBound p new
+    → least_value (problem_net p) p.table (Ends end) (root_of p) ≡ None → IsRootBound p new
 closed_bound p new end e none l h = absurd (subst (λ (o : Option ℤ). IsAtMost (option_map told o) (Some l)) none
-    (subst (λ (x : Tree). IsAtMost (option_map told (least_value (net_of p) p.table x (root_of p))) (Some l)) e h))
+    (subst (λ (x : Tree). IsAtMost (option_map told (least_value (problem_net p) p.table x (root_of p))) (Some l)) e h))
 
 -- ---- what single pairs are worth at the root
 
@@ -222,9 +222,9 @@ at_zero : (c : ℤ) (r : ℕ × ℕ) → r.0 ≡ 0 → int_min (c *ℤ pos r.0) 
 at_zero c r e = let none : c *ℤ pos 0 ≡ pos 0 = omega (arith, ints) in rw e (omega (arith, ints, clamps, none))
 
 -- no pairs are worth nothing there
-none_small : (p : ProblemValue) (v : ℤ) → leaf_value (net_of p) p.table (root_of p) [] true ≡ Some v → v ≤ℤ pos 0
+none_small : (p : ProblemValue) (v : ℤ) → leaf_value (problem_net p) p.table (root_of p) [] true ≡ Some v → v ≤ℤ pos 0
 none_small p v e =
-    let n = net_of p in
+    let n = problem_net p in
     let slack = slack_part n p.table (root_of p) [] true in
     let below = sum_below-le (length n.arcs) slack (λ i. pos 0)
     (λ i l. at_zero (weight_of true (arc_at n.arcs i) -ℤ pos 0) (slack_range (root_slacks n) i)
@@ -246,17 +246,17 @@ none_small p v e =
     total a b c w e f g h = omega (arith, ints, e, f, g, h)
 
 one_small : (p : ProblemValue) (pairs : List Pair) (v : ℤ) → KeepsNetLimits p.network → IsSmallTable p.table
-    → IsSingle (length p.table) pairs → leaf_value (net_of p) p.table (root_of p) pairs true ≡ Some v
+    → IsSingle (length p.table) pairs → leaf_value (problem_net p) p.table (root_of p) pairs true ≡ Some v
     → v ≤ℤ pos 999999999999999999
 one_small p pairs v limits small (inl none) e =
-    let least = none_small p v (subst (λ (x : List Pair). leaf_value (net_of p) p.table (root_of p) x true ≡ Some v) none e) in
+    let least = none_small p v (subst (λ (x : List Pair). leaf_value (problem_net p) p.table (root_of p) x true ≡ Some v) none e) in
     omega (arith, ints, least)
 one_small p pairs v limits small (inr (cycle, names, inl plus)) e =
     single_small p cycle (pos 1) v limits small (omega arith) names
-    (subst (λ (x : List Pair). leaf_value (net_of p) p.table (root_of p) x true ≡ Some v) plus e)
+    (subst (λ (x : List Pair). leaf_value (problem_net p) p.table (root_of p) x true ≡ Some v) plus e)
 one_small p pairs v limits small (inr (cycle, names, inr minus)) e =
     single_small p cycle (negsuc 0) v limits small (omega arith) names
-    (subst (λ (x : List Pair). leaf_value (net_of p) p.table (root_of p) x true ≡ Some v) minus e)
+    (subst (λ (x : List Pair). leaf_value (problem_net p) p.table (root_of p) x true ≡ Some v) minus e)
 
 reached : (s value : ℤ) (l : ℕ) → s ≤ℤ value → s ≤ℤ pos 999999999999999999 → told value ≤ l → s ≤ℤ pos l
 reached s (pos n) l h k t = omega (arith, ints, h, k, t)
@@ -307,8 +307,8 @@ root_bound p mid new job false (Bound pairs value) l f may t = λ bound h. (
       (let some = l.limits.some_period in omega (arith, some))
       (opening_is_orderly p) refl l.lends t f.found.2 in
       let at_least : told value ≤ bound = at_most_trans (Some (told value)) (least p new) (Some bound) set h in
-      above (leaf_value (net_of p) p.table (root_of p) others true)
-      (leaf_value (net_of p) p.table (root_of p) f.start true) value bound
+      above (leaf_value (problem_net p) p.table (root_of p) others true)
+      (leaf_value (problem_net p) p.table (root_of p) f.start true) value bound
       (f.best.others others single) f.no_less (λ v w. one_small p others v l.limits l.small single w) at_least),
 )
   where

@@ -6,7 +6,7 @@ use Rattle.std.proofs.lemmas.List.Elements.{All-cons, All-nil}
 use Rattle.pesp_problem.specs.declared.pair.Pair.{Pair}
 use Rattle.pesp_problem.specs.Walks.{Names}
 use Rattle.pesp_problem.specs.Nodes.{Node, leaf_value}
-use Rattle.pesp_nodes.specs.Problems.{ProblemValue, net_of, IsPairOf, ArePairs}
+use Rattle.pesp_nodes.specs.Problems.{ProblemValue, problem_net, IsPairOf, ArePairs}
 use Rattle.pesp_board.specs.Giving.{HaveValue}
 use Rattle.pesp_search.specs.Singles.{plus_pair, minus_pair, IsSingle, IsBestSingle}
 
@@ -22,7 +22,7 @@ one_pair n pair names one = record {
 
 pub one_valued : (p : ProblemValue) (node : Node) (pair : Pair) (items : List Pair) (value : Option ℤ) (v w : ℤ)
     → Names (length p.table) pair.cycle → unsigned_abs pair.mult ≡ 1 → items ≡ pair ∷ []
-    → value ≡ leaf_value (net_of p) p.table node (pair ∷ []) true → value ≡ Some v → w ≡ v
+    → value ≡ leaf_value (problem_net p) p.table node (pair ∷ []) true → value ≡ Some v → w ≡ v
     → HaveValue p node items true w
 one_valued p node pair items value v w names one e f g h =
     subst (λ (x : List Pair). HaveValue p node x true w) (sym e)
@@ -30,7 +30,7 @@ one_valued p node pair items value v w names one e f g h =
 
 -- at most so much, where there is a value
 abbrev pub IsUpTo : ProblemValue → Node → List Pair → ℤ → Type 0
-IsUpTo p node pairs value = IfSome (leaf_value (net_of p) p.table node pairs true) (λ v. v ≤ℤ value)
+IsUpTo p node pairs value = IfSome (leaf_value (problem_net p) p.table node pairs true) (λ v. v ≤ℤ value)
 
 -- the best of no pairs and the single pairs of the first n cycles
 pub record IsBestOf (p : ProblemValue) (node : Node) (n : ℕ) (pairs : List Pair) (value : ℤ) : Type 0 where
@@ -50,7 +50,7 @@ pub none_best : (p : ProblemValue) (node : Node) (pairs : List Pair) (value : �
     → HaveValue p node [] true value → IsBestOf p node 0 pairs value
 none_best p node pairs value e h = record {
   worth = subst (λ (x : List Pair). HaveValue p node x true value) (sym e) h;
-  none = up_to_itself (leaf_value (net_of p) p.table node [] true) value h.1;
+  none = up_to_itself (leaf_value (problem_net p) p.table node [] true) value h.1;
   plus = λ c m. absurd (omega (arith, m));
   minus = λ c m. absurd (omega (arith, m));
 }
@@ -61,13 +61,13 @@ pub one_more : (p : ProblemValue) (node : Node) (n : ℕ) (pairs new : List Pair
     → IsBestOf p node (n + 1) new more
 one_more p node n pairs new value more h w less plus minus = record {
   worth = w;
-  none = up_to_more (leaf_value (net_of p) p.table node [] true) value more less h.none;
+  none = up_to_more (leaf_value (problem_net p) p.table node [] true) value more less h.none;
   plus = λ c m. elim (cases c m) [
-    | inl before ↦ up_to_more (leaf_value (net_of p) p.table node (plus_pair c) true) value more less (h.plus c before)
+    | inl before ↦ up_to_more (leaf_value (problem_net p) p.table node (plus_pair c) true) value more less (h.plus c before)
     | inr here ↦ subst (λ (x : ℕ). IsUpTo p node (plus_pair x) more) (sym here) plus
   ];
   minus = λ c m. elim (cases c m) [
-    | inl before ↦ up_to_more (leaf_value (net_of p) p.table node (minus_pair c) true) value more less (h.minus c before)
+    | inl before ↦ up_to_more (leaf_value (problem_net p) p.table node (minus_pair c) true) value more less (h.minus c before)
     | inr here ↦ subst (λ (x : ℕ). IsUpTo p node (minus_pair x) more) (sym here) minus
   ];
 }
@@ -90,8 +90,8 @@ pub all_best : (p : ProblemValue) (node : Node) (n : ℕ) (pairs : List Pair) (v
     → IsBestOf p node n pairs value → IsBestSingle p node pairs
 all_best p node n pairs value e h = record {
   pairs = h.worth.0;
-  others = λ others single. below_best (leaf_value (net_of p) p.table node others true)
-      (leaf_value (net_of p) p.table node pairs true) value h.worth.1 (each others single);
+  others = λ others single. below_best (leaf_value (problem_net p) p.table node others true)
+      (leaf_value (problem_net p) p.table node pairs true) value h.worth.1 (each others single);
 }
   where
     each : (others : List Pair) → IsSingle (length p.table) others → IsUpTo p node others value

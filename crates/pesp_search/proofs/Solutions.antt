@@ -16,12 +16,12 @@ use Rattle.pesp_truth.specs.declared.answer.Answer.TheVariants.{Optimal, Infeasi
 use Rattle.pesp_truth.specs.Truth.{IsTrueAnswer}
 use Rattle.pesp_truth.specs.Certificates.{Content, IsValid, cost_of, shown_times}
 use Rattle.pesp_truth.proofs.Certificates.{valid_is_true}
-use Rattle.pesp_nodes.specs.Problems.{ProblemValue, net_of}
-use Rattle.pesp_machine.specs.States.{State, IsAtMost, IsOpen, least, best_cost}
-use Rattle.pesp_machine.specs.Certificates.{IsProblemOf, IsCertificateOf, answer_of}
-use Rattle.pesp_search_laws.specs.Turns.{IsOpenAnswer}
-use Rattle.pesp_search_laws.proofs.Ends.{same_net, has_branches, fewer_than_room, not_open}
-use Rattle.pesp_search_laws.specs.Lifted.{IsFrugal}
+use Rattle.pesp_nodes.specs.Problems.{ProblemValue, problem_net}
+use Rattle.pesp_tree.specs.States.{State, IsAtMost, IsOpen, least, best_cost}
+use Rattle.pesp_tree.specs.Certificates.{IsProblemOf, IsCertificateOf, answer_of}
+use Rattle.pesp_branching.specs.Turns.{IsOpenAnswer}
+use Rattle.pesp_branching.proofs.Ends.{same_net, has_branches, fewer_than_room, not_open}
+use Rattle.pesp_branching.specs.Lifted.{IsFrugal}
 use Rattle.pesp_search.specs.declared.refusal.SolveRefusal.{SolveRefusal}
 use Rattle.pesp_search.specs.declared.refusal.SolveRefusal.TheVariants.{Memory, TableTooLarge, PairsTooMany}
 use Rattle.pesp_search.specs.Refusals.{MeetsLimit}
@@ -103,10 +103,10 @@ costs_no_more instance p times now content limits of c valid cheap is =
     let some = limits.some_period in
     let positive : 0 < instance.period = omega (arith, some) in
     let net = (net_timetables instance times positive (limits_in_order instance limits)).0 is in
-    let there : IsNetTimetable (net_of p) p.network.events times =
+    let there : IsNetTimetable (problem_net p) p.network.events times =
     subst (λ (n : Net). IsNetTimetable n p.network.events times) (sym (same_net instance p of))
     (subst (λ (k : ℕ). IsNetTimetable (instance_net instance) k times) (sym of.events) net) in
-    let same : net_cost (net_of p) times ≡ cost instance.period instance.rows times =
+    let same : net_cost (problem_net p) times ≡ cost instance.period instance.rows times =
     ap (λ (n : Net). net_cost n times) (same_net instance p of) ∙ net_cost-is instance times in
     let most : IsAtMost (best_cost p now) (Some (cost instance.period instance.rows times)) =
     subst (λ (n : ℕ). IsAtMost (best_cost p now) (Some n)) same (cheap there) in

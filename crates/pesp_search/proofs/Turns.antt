@@ -4,10 +4,10 @@ use Rattle.pesp_problem.specs.declared.cut.Cut.{Cut}
 use Rattle.pesp_problem.specs.declared.cut.Side.{Side}
 use Rattle.pesp_network.specs.Networks.{KeepsNetLimits}
 use Rattle.pesp_nodes.specs.Problems.{ProblemValue}
-use Rattle.pesp_machine.specs.States.{State, IsOpen}
-use Rattle.pesp_machine.proofs.Runs.{best_never_rises}
+use Rattle.pesp_tree.specs.States.{State, IsOpen}
+use Rattle.pesp_tree.proofs.Runs.{best_never_rises}
 use Rattle.pesp_reduce.specs.Reductions.{ReducedValue}
-use Rattle.pesp_search_laws.specs.Turns.{IsWorked}
+use Rattle.pesp_branching.specs.Turns.{IsWorked}
 use Rattle.pesp_turns.specs.declared.ending.Ending.TheVariants.{StepsUsed, NoneOpen, TreeTooLarge}
 use Rattle.pesp_turns.specs.Growing.{Grows}
 use Rattle.pesp_turns.specs.Counting.{IsWorkedFrom, AreTurns}

@@ -1,10 +1,10 @@
 -- How the search for an instance begins.
 use Rattle.std.specs.Prelude.{◌≡◌, ◌≤◌, length}
 use Rattle.pesp_problem.specs.Timetables.{Pesp}
-use Rattle.pesp_machine.specs.States.{BoardValue, opening}
-use Rattle.pesp_machine.specs.Certificates.{IsProblemOf}
+use Rattle.pesp_tree.specs.States.{BoardValue, opening}
+use Rattle.pesp_tree.specs.Certificates.{IsProblemOf}
 use Rattle.pesp_reduce.specs.Reductions.{ReducedValue}
-use Rattle.pesp_search_laws.specs.Lifted.{IsFrugal}
+use Rattle.pesp_branching.specs.Lifted.{IsFrugal}
 use Rattle.pesp_turns.specs.declared.search.Search.{Search}
 use Rattle.pesp_turns.specs.Knowing.{IsKnown}
 use Rattle.pesp_turns.specs.Settling.{IsSearched}

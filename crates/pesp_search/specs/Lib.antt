@@ -4,3 +4,5 @@ pub mod Beginning
 pub mod Refusals
 pub mod Rooting
 pub mod Searching
+pub mod Told
+pub mod Parts

@@ -6,11 +6,11 @@ use Rattle.pesp_problem.specs.Timetables.{Pesp}
 use Rattle.pesp_problem.specs.Forests.{IsSpanningForest, AreFundamental, IsSimple}
 use Rattle.pesp_network.specs.Networks.{arcs_of_network}
 use Rattle.pesp_nodes.specs.Problems.{ProblemValue, IsSmallTable}
-use Rattle.pesp_machine.specs.States.{State}
-use Rattle.pesp_machine.specs.Certificates.{IsProblemOf}
+use Rattle.pesp_tree.specs.States.{State}
+use Rattle.pesp_tree.specs.Certificates.{IsProblemOf}
 use Rattle.pesp_reduce.specs.Reductions.{ReducedValue}
-use Rattle.pesp_search_laws.specs.Lifted.{IsReduced, AreLifted, IsFrugal}
-use Rattle.pesp_search_laws.specs.Turns.{IsWorked}
+use Rattle.pesp_branching.specs.Lifted.{IsReduced, AreLifted, IsFrugal}
+use Rattle.pesp_branching.specs.Turns.{IsWorked}
 use Rattle.pesp_turns.specs.Growing.{Grows}
 use Rattle.pesp_turns.specs.Endings.{IsTreeFull}
 use Rattle.pesp_search.specs.declared.refusal.SolveRefusal.{SolveRefusal}

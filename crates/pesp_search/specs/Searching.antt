@@ -3,10 +3,10 @@ use Rattle.std.specs.Prelude.{◌≡◌, ◌⊎◌, ⊤, ℕ, ◌≤◌, List, B
 use Rattle.pesp_problem.specs.declared.cut.Cut.{Cut}
 use Rattle.pesp_problem.specs.declared.cut.Side.{Side}
 use Rattle.pesp_problem.specs.NetTimetables.{IsNetTimetable, net_cost}
-use Rattle.pesp_nodes.specs.Problems.{ProblemValue, net_of}
-use Rattle.pesp_machine.specs.States.{State, IsOpen, IsAtMost, least, best_cost}
-use Rattle.pesp_machine.specs.Events.{Offers}
-use Rattle.pesp_search_laws.specs.Turns.{IsWorked}
+use Rattle.pesp_nodes.specs.Problems.{ProblemValue, problem_net}
+use Rattle.pesp_tree.specs.States.{State, IsOpen, IsAtMost, least, best_cost}
+use Rattle.pesp_tree.specs.Events.{Offers}
+use Rattle.pesp_branching.specs.Turns.{IsWorked}
 use Rattle.pesp_search.specs.Refusals.{FillsTree}
 use Rattle.pesp_search.specs.Rooting.{IsRootBound}
 use Rattle.pesp_search.specs.declared.refusal.SolveRefusal.{SolveRefusal}
@@ -18,8 +18,8 @@ AreOffered p times old new = (kept : Bool) × Offers p old times kept new
 
 -- where the times are a timetable, the best ones cost no more
 abbrev pub IsAsCheapAs : ProblemValue → List ℕ → State → Type 0
-IsAsCheapAs p times state = IsNetTimetable (net_of p) p.network.events times
-    → IsAtMost (best_cost p state) (Some (net_cost (net_of p) times))
+IsAsCheapAs p times state = IsNetTimetable (problem_net p) p.network.events times
+    → IsAtMost (best_cost p state) (Some (net_cost (problem_net p) times))
 
 -- the root was looked at, and these times were offered
 pub record IsReady (p : ProblemValue) (times : List ℕ) (state : State) : Type 0 where

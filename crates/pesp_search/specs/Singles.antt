@@ -5,7 +5,7 @@ use Rattle.pesp_problem.specs.declared.pair.Pair.{Pair}
 use Rattle.pesp_problem.specs.Arcs.{Net}
 use Rattle.pesp_problem.specs.Walks.{Names}
 use Rattle.pesp_problem.specs.Nodes.{Node, root, leaf_value}
-use Rattle.pesp_nodes.specs.Problems.{ProblemValue, net_of, ArePairs}
+use Rattle.pesp_nodes.specs.Problems.{ProblemValue, problem_net, ArePairs}
 
 -- one pair of a cycle, with the multiplier 1
 abbrev pub plus_pair : ℕ → List Pair
@@ -28,5 +28,5 @@ IsAboveSingles n table l = (pairs : List Pair) → IsSingle (length table) pairs
 pub record IsBestSingle (p : ProblemValue) (node : Node) (best : List Pair) : Type 0 where
   pub pairs : ArePairs (length p.table) best
   pub others : (pairs : List Pair) → IsSingle (length p.table) pairs
-      → IfSome (leaf_value (net_of p) p.table node pairs true)
-      (λ v. IsSomeAnd (leaf_value (net_of p) p.table node best true) (λ w. v ≤ℤ w))
+      → IfSome (leaf_value (problem_net p) p.table node pairs true)
+      (λ v. IsSomeAnd (leaf_value (problem_net p) p.table node best true) (λ w. v ≤ℤ w))

@@ -6,9 +6,9 @@ use Rattle.pesp_problem.specs.Arcs.{net_of}
 use Rattle.pesp_problem.specs.Nodes.{root}
 use Rattle.pesp_truth.specs.declared.answer.Answer.TheVariants.{Bounded}
 use Rattle.pesp_truth.specs.Certificates.{Content, IsValid, cost_of}
-use Rattle.pesp_search_laws.specs.Rooms.{room}
-use Rattle.pesp_search_laws.specs.Turns.{IsOpenAnswer, HasBranches}
-use Rattle.pesp_search_laws.specs.Lifted.{IsFrugal}
+use Rattle.pesp_branching.specs.Rooms.{room}
+use Rattle.pesp_branching.specs.Turns.{IsOpenAnswer, HasBranches}
+use Rattle.pesp_branching.specs.Lifted.{IsFrugal}
 use Rattle.pesp_search.specs.Rooting.{IsRootSupported}
 use Rattle.pesp_search.specs.Singles.{IsAboveSingles}
 use Rattle.pesp_search.specs.declared.refusal.SolveRefusal.{SolveRefusal}

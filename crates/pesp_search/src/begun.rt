@@ -1,7 +1,7 @@
 //! A search that begins.
 
 ghost use Rattle.std.specs.Prelude.{◌≡◌, IfOk, IfErr};
-ghost use Rattle.pesp_search_laws.specs.Lifted.{IsReduced};
+ghost use Rattle.pesp_branching.specs.Lifted.{IsReduced};
 ghost use Rattle.pesp_turns.specs.Knowing.{IsKnown};
 ghost use Rattle.pesp_search.specs.Beginning.{IsNewBoard, IsBegun};
 ghost use Rattle.pesp_search.specs.Refusals.{MeetsLimit};
@@ -11,7 +11,7 @@ use crate::lifted_problem::problem_for;
 use crate::planted_forest::{Planting, planted};
 use crate::refusal::SolveRefusal;
 use pesp_board::Board;
-use pesp_finder::TimesFinder;
+use pesp_forest::TimesFinder;
 use pesp_nodes::Problem;
 use pesp_problem::{Instance, Memory};
 use pesp_reduce::Reduced;

@@ -4,7 +4,7 @@ ghost use Rattle.std.specs.Prelude.{◌≡◌, OnOk};
 ghost use Rattle.pesp_search.specs.Searching.{AreOffered};
 
 use pesp_board::Board;
-use pesp_finder::TimesFinder;
+use pesp_forest::TimesFinder;
 use pesp_problem::{Instance, Memory, Score, score};
 use pesp_reduce::Reduced;
 use std::alloc::Global;

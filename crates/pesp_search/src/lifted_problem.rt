@@ -5,18 +5,18 @@ ghost use Rattle.pesp_problem.specs.Arcs.{arcs_of};
 ghost use Rattle.pesp_problem.specs.Walks.{IsWalk};
 ghost use Rattle.pesp_problem.specs.Forests.{IsSpanningForest, AreFundamental, IsSimple};
 ghost use Rattle.pesp_network.specs.Networks.{arcs_of_network};
-ghost use Rattle.pesp_machine.specs.Certificates.{IsProblemOf};
-ghost use Rattle.pesp_search_laws.specs.Lifted.{IsReduced, AreLifted, IsFrugal};
+ghost use Rattle.pesp_tree.specs.Certificates.{IsProblemOf};
+ghost use Rattle.pesp_branching.specs.Lifted.{IsReduced, AreLifted, IsFrugal};
 ghost use Rattle.pesp_turns.specs.Settling.{IsSearched};
 ghost use Rattle.pesp_search.specs.Refusals.{MeetsLimit};
 ghost use Rattle.pesp_search.specs.Solving.{IsSearchRefusal};
 
 use crate::refusal::SolveRefusal;
+use pesp_branching::lifts::{lifted_tables_are_frugal, tables_are_small};
 use pesp_network::{NetRefusal, Network};
 use pesp_nodes::{Problem, ProblemRefusal};
 use pesp_problem::{Instance, Memory, Walk};
 use pesp_reduce::Reduced;
-use pesp_search_laws::lifts::{lifted_tables_are_frugal, tables_are_small};
 use std::alloc::Global;
 
 /// The fundamental walks of what is left.

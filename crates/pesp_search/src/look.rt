@@ -8,7 +8,7 @@ use crate::begun::begin;
 use crate::planted_forest::Planting;
 use crate::refusal::SolveRefusal;
 use crate::solution::{Solved, solve_on};
-use pesp_finder::{Effort, TimesFinder};
+use pesp_forest::{Effort, TimesFinder};
 use pesp_problem::Instance;
 use pesp_reduce::Reduced;
 use pesp_turns::{Known, Observer, Search};

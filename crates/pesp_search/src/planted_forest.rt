@@ -1,14 +1,14 @@
 //! The forest of what is left: its fundamental walks are the table that is searched.
 
 ghost use Rattle.std.specs.Prelude.{◌≡◌, IfOk};
-ghost use Rattle.pesp_search_laws.specs.Lifted.{IsReduced};
+ghost use Rattle.pesp_branching.specs.Lifted.{IsReduced};
 
 use crate::race::further;
 use pesp_forest_search::search_forest;
 use pesp_network::Network;
 use pesp_problem::{Instance, Memory};
 use pesp_reduce::{Reduced, reduce};
-use pesp_turns::{Observer, Part};
+use pesp_turns::{Observer, SearchPhase};
 use std::alloc::Global;
 
 /// How long a forest is looked for.
@@ -126,9 +126,9 @@ pub(crate) fn planted<O: Observer>(
     ensures original { IfOk result (λ r. r.original ≡ instance.now) }
     ensures reduced { IfOk result IsReduced }
 {
-    observer.at(Part::Reduction);
+    observer.at(SearchPhase::Reduction);
     let reduced = reduce(alloc, instance)?;
-    observer.at(Part::Forest);
+    observer.at(SearchPhase::Forest);
     match forest_for(alloc, instance, reduced.network(), planting) {
         Ok(forest) => reduced.with_forest(alloc, &forest),
         Err(refused) => {

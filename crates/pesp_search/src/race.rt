@@ -1,7 +1,7 @@
 //! Which of two forests is searched on: the one whose tree gets further within a few steps.
 
 ghost use Rattle.std.specs.Prelude.{◌≡◌};
-ghost use Rattle.pesp_machine.specs.States.{opening};
+ghost use Rattle.pesp_tree.specs.States.{opening};
 ghost use Rattle.pesp_turns.specs.Knowing.{IsKnown};
 
 use crate::begun::begin_over;
@@ -9,7 +9,7 @@ use crate::given_times::offer_given;
 use crate::planted_forest::planted_over;
 use crate::refusal::SolveRefusal;
 use crate::root::look_at_root;
-use pesp_finder::NoTimes;
+use pesp_forest::NoTimes;
 use pesp_problem::{Instance, Memory};
 use pesp_propagate::dive;
 use pesp_reduce::Reduced;

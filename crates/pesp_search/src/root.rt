@@ -2,9 +2,9 @@
 
 ghost use Rattle.std.specs.Prelude.{◌≡◌, IfOk, IfErr, OnOk};
 ghost use Rattle.pesp_nodes.specs.Problems.{IsNodeOf};
-ghost use Rattle.pesp_machine.specs.States.{opening, root_of};
-ghost use Rattle.pesp_machine.specs.Events.{LendsLeaf};
-ghost use Rattle.pesp_search_laws.specs.Turns.{IsWorked};
+ghost use Rattle.pesp_tree.specs.States.{opening, root_of};
+ghost use Rattle.pesp_tree.specs.Events.{LendsLeaf};
+ghost use Rattle.pesp_branching.specs.Turns.{IsWorked};
 ghost use Rattle.pesp_search.specs.Rooting.{work_of, IsRootBound};
 ghost use Rattle.pesp_search.specs.Searching.{AreTurnsRefused};
 

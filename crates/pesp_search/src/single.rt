@@ -3,7 +3,7 @@
 ghost use Rattle.std.specs.Prelude.{◌≡◌, ℕ, ◌+◌, [], ◌∷◌, ◌<◌, ◌≤◌, ◌≤ℤ◌, length, unsigned_abs, true, IfOk, IfSome};
 ghost use Rattle.pesp_problem.specs.Walks.{Names};
 ghost use Rattle.pesp_problem.specs.Nodes as spec;
-ghost use Rattle.pesp_nodes.specs.Problems.{net_of, IsNodeOf};
+ghost use Rattle.pesp_nodes.specs.Problems.{problem_net, IsNodeOf};
 ghost use Rattle.pesp_board.specs.Giving.{HaveValue};
 ghost use Rattle.pesp_search.specs.Singles.{plus_pair, minus_pair, IsBestSingle};
 
@@ -49,7 +49,7 @@ fn with_pair(
     requires best { HaveValue problem.now node.now best.pairs.items true best.value }
     ensures value { IfOk result (λ b. HaveValue problem.now node.now b.pairs.items true b.value) }
     ensures no_less { IfOk result (λ b. best.value ≤ℤ b.value) }
-    ensures pair { IfOk result (λ b. IfSome (spec.leaf_value (net_of problem.now) problem.now.table
+    ensures pair { IfOk result (λ b. IfSome (spec.leaf_value (problem_net problem.now) problem.now.table
         node.now (pair.now ∷ []) true) (λ v. v ≤ℤ b.value)) }
 {
     match single_value(problem, node, pair, none) {
@@ -77,9 +77,9 @@ fn with_cycle(
     requires best { HaveValue problem.now node.now best.pairs.items true best.value }
     ensures value { IfOk result (λ b. HaveValue problem.now node.now b.pairs.items true b.value) }
     ensures no_less { IfOk result (λ b. best.value ≤ℤ b.value) }
-    ensures plus { IfOk result (λ b. IfSome (spec.leaf_value (net_of problem.now) problem.now.table
+    ensures plus { IfOk result (λ b. IfSome (spec.leaf_value (problem_net problem.now) problem.now.table
         node.now (plus_pair cycle) true) (λ v. v ≤ℤ b.value)) }
-    ensures minus { IfOk result (λ b. IfSome (spec.leaf_value (net_of problem.now) problem.now.table
+    ensures minus { IfOk result (λ b. IfSome (spec.leaf_value (problem_net problem.now) problem.now.table
         node.now (minus_pair cycle) true) (λ v. v ≤ℤ b.value)) }
 {
     let plus = Pair { cycle, mult: 1 };

@@ -2,10 +2,10 @@
 
 ghost use Rattle.std.specs.Prelude.{◌≡◌, ℕ, ◌≤◌, List, IfOk, IfErr, OnOk};
 ghost use Rattle.pesp_problem.specs.declared.limits.TheConstants.{MOST_STEPS};
-ghost use Rattle.pesp_machine.specs.States.{State, opening};
-ghost use Rattle.pesp_machine.specs.Certificates.{IsProblemOf};
-ghost use Rattle.pesp_search_laws.specs.Lifted.{IsFrugal};
-ghost use Rattle.pesp_search_laws.specs.Turns.{IsWorked};
+ghost use Rattle.pesp_tree.specs.States.{State, opening};
+ghost use Rattle.pesp_tree.specs.Certificates.{IsProblemOf};
+ghost use Rattle.pesp_branching.specs.Lifted.{IsFrugal};
+ghost use Rattle.pesp_branching.specs.Turns.{IsWorked};
 ghost use Rattle.pesp_turns.specs.Knowing.{IsKnown};
 ghost use Rattle.pesp_turns.specs.Settling.{IsSearched};
 ghost use Rattle.pesp_search.specs.Beginning.{IsBegun};
@@ -22,9 +22,9 @@ use crate::root::look_at_root;
 use pesp_board::Board;
 use pesp_branching::offer_times;
 use pesp_cert::Certificate;
-use pesp_finder::TimesFinder;
+use pesp_forest::TimesFinder;
 use pesp_problem::{Instance, Memory};
-use pesp_turns::{Ending, Known, Observer, Part, Search};
+use pesp_turns::{Ending, Known, Observer, Search, SearchPhase};
 use std::alloc::Global;
 
 /// What is known of an instance, and how many leaves were split to find it.
@@ -65,9 +65,9 @@ fn look_and_offer<F: TimesFinder, O: Observer>(
     ensures refused { IfErr result (AreTurnsRefused board.old.problem 0) }
 {
     board.problem().keeps_limits();
-    observer.at(Part::Root);
+    observer.at(SearchPhase::Root);
     look_at_root(alloc, board, &known.root)?;
-    observer.at(Part::Times);
+    observer.at(SearchPhase::Times);
     offer_given(alloc, board, times)?;
     begin_with(alloc, instance, &known.reduced, times, finder)?;
     offer_times(alloc, board, &known.reduced, finder)?;

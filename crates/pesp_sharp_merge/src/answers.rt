@@ -7,24 +7,6 @@ use std::alloc::Global;
 /// The greatest bound that a certificate tells.
 const MOST_BOUND: u64 = 999_999_999_999_999_999;
 
-/// The cost of the times that an answer shows.
-pub(crate) fn cost_of(answer: Answer) -> Option<u64> {
-    match answer {
-        Answer::Optimal(cost) => Some(cost),
-        Answer::Infeasible => None,
-        Answer::Bounded { cost, .. } => cost,
-    }
-}
-
-/// The bound that an answer tells, `u64::MAX` where it tells that there is no timetable.
-pub(crate) fn least_of(answer: Answer) -> u64 {
-    match answer {
-        Answer::Optimal(cost) => cost,
-        Answer::Infeasible => u64::MAX,
-        Answer::Bounded { least, .. } => least,
-    }
-}
-
 /// The lesser of two costs; none is above every cost.
 pub(crate) fn lesser(a: Option<u64>, b: Option<u64>) -> Option<u64> {
     match (a, b) {

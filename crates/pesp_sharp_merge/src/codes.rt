@@ -1,7 +1,6 @@
 //! Walks as numbers, so that they can be compared.
 
-use pesp_nets::MarkedWalk;
-use pesp_problem::{Memory, SignedRow, Walk};
+use pesp_problem::{MarkedWalk, Memory, SignedRow, Walk};
 use std::alloc::Global;
 
 /// A row with its sign and its mark as one number.

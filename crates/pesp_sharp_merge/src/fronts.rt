@@ -2,8 +2,7 @@
 
 use crate::names::Numbering;
 use pesp_cert::Front;
-use pesp_nets::MarkedWalk;
-use pesp_problem::{Memory, Walk};
+use pesp_problem::{MarkedWalk, Memory, Walk};
 use std::alloc::Global;
 
 /// The marked walks of a front.

@@ -1,6 +1,6 @@
 //! Two certificates that are one leaf each behind lemmas, as one leaf that names the lemmas of both.
 
-use crate::answers::{answer_of, copied_times, cost_of, least_of, lesser};
+use crate::answers::{answer_of, copied_times, lesser};
 use crate::factors::{Factors, factors_of};
 use crate::fronts::{joined_cycles, joined_walks, walks_of};
 use crate::lemmas::{common_lemmas, joined_lemmas, lemmas_of};
@@ -14,7 +14,7 @@ use std::alloc::Global;
 
 /// A certificate that is one bound leaf behind lemmas, the pairs of that leaf, and by what their multipliers grow.
 #[derive(Clone, Copy)]
-struct Leaf<'a> {
+struct LemmaLeaf<'a> {
     fronted: &'a Fronted,
     pairs: &'a [Pair],
     factor: i64,
@@ -22,9 +22,9 @@ struct Leaf<'a> {
 
 /// Two of them, which of the other one's cycles, marked walks and lemmas are ours, and the scale of both.
 #[derive(Clone, Copy)]
-struct Leaves<'a> {
-    own: Leaf<'a>,
-    other: Leaf<'a>,
+struct LeafPair<'a> {
+    own: LemmaLeaf<'a>,
+    other: LemmaLeaf<'a>,
     common: Common<'a>,
     scale: u32,
 }
@@ -60,7 +60,7 @@ fn place_in(matched: &[Option<u32>], place: usize) -> Option<usize> {
     }
 }
 
-impl<'a> Leaf<'a> {
+impl<'a> LemmaLeaf<'a> {
     /// The certificate behind the front.
     fn certificate(&self) -> &'a Certificate {
         let fronted = self.fronted;
@@ -138,7 +138,7 @@ impl<'a> Leaf<'a> {
     }
 }
 
-impl Leaves<'_> {
+impl LeafPair<'_> {
     /// The place among ours of a cycle or a marked walk that the other leaf names; None where there is none.
     fn ours(&self, pair: &Pair) -> Option<usize> {
         let place = self.other.place(pair);
@@ -215,15 +215,17 @@ impl Leaves<'_> {
         let own = self.own.certificate().answer();
         let other = self.other.certificate().answer();
         answer_of(
-            least_of(own).max(least_of(other)),
-            lesser(cost_of(own), cost_of(other)),
+            own.least()
+                .unwrap_or(u64::MAX)
+                .max(other.least().unwrap_or(u64::MAX)),
+            lesser(own.cost(), other.cost()),
         )
     }
 
     /// The cheaper times.
     fn times(&self, alloc: Global) -> Result<Vec<(i64, u32)>, Memory> {
-        let own = cost_of(self.own.certificate().answer());
-        let other = cost_of(self.other.certificate().answer());
+        let own = self.own.certificate().answer().cost();
+        let other = self.other.certificate().answer().cost();
         let from = if lesser(own, other) == own {
             self.own
         } else {
@@ -354,12 +356,12 @@ fn joined_leaf(alloc: Global, own: &Pairs, other: &Pairs) -> Result<TreeLine, Me
 /// What comes of two such leaves, where this is common to both.
 fn with_common(
     alloc: Global,
-    own: Leaf<'_>,
-    other: Leaf<'_>,
+    own: LemmaLeaf<'_>,
+    other: LemmaLeaf<'_>,
     common: Common<'_>,
     scale: u32,
 ) -> Result<Option<Fronted>, Memory> {
-    let leaves = Leaves {
+    let leaves = LeafPair {
         own,
         other,
         common,
@@ -373,8 +375,8 @@ fn with_common(
 /// What comes of two such leaves.
 fn of_both(
     alloc: Global,
-    own: Leaf<'_>,
-    other: Leaf<'_>,
+    own: LemmaLeaf<'_>,
+    other: LemmaLeaf<'_>,
     scale: u32,
 ) -> Result<Option<Fronted>, Memory> {
     let cycles = common_cycles(alloc, own.certificate(), other.certificate())?;
@@ -409,12 +411,12 @@ pub fn merge_leaves(
     let (Some(own_pairs), Some(other_pairs)) = (pairs_of(own), pairs_of(other)) else {
         return Ok(None);
     };
-    let own = Leaf {
+    let own = LemmaLeaf {
         fronted: own,
         pairs: own_pairs,
         factor: own_factor,
     };
-    let other = Leaf {
+    let other = LemmaLeaf {
         fronted: other,
         pairs: other_pairs,
         factor: other_factor,

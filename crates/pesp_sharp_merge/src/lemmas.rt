@@ -3,8 +3,7 @@
 use crate::lines::Retelling;
 use crate::names::Numbering;
 use pesp_cert::{Front, ShownLemma};
-use pesp_nets::MarkedWalk;
-use pesp_problem::{Memory, Walk};
+use pesp_problem::{MarkedWalk, Memory, Walk};
 use pesp_truth::TreeLine;
 use std::alloc::Global;
 

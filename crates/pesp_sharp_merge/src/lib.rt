@@ -18,4 +18,4 @@ mod shape;
 
 pub use leaves::merge_leaves;
 pub use merged::{Merged, merge};
-pub use pairing::Shown;
+pub use pairing::ShownCertificate;

@@ -6,7 +6,7 @@ use crate::common::matched;
 use crate::fronts::walks_of;
 use crate::lemmas::{common_lemmas, lemmas_of};
 use crate::names::Common;
-use crate::pairing::{Pairing, Shown};
+use crate::pairing::{Pairing, ShownCertificate};
 use crate::runs::{Run, Trees};
 use crate::shape::Shape;
 use pesp_cert::{Certificate, Front, Fronted};
@@ -57,8 +57,8 @@ fn paired(alloc: Global, pairing: Pairing<'_>) -> Result<Merged, Memory> {
 /// What comes of both, once their trees were walked through.
 fn joined(
     alloc: Global,
-    own: Shown<'_>,
-    other: Shown<'_>,
+    own: ShownCertificate<'_>,
+    other: ShownCertificate<'_>,
     trees: Trees<'_>,
     runs: &[Run],
 ) -> Result<Merged, Memory> {
@@ -84,8 +84,8 @@ fn joined(
 /// What comes of both, where the trees have these shapes and the certificates share these cycles.
 fn walked(
     alloc: Global,
-    own: Shown<'_>,
-    other: Shown<'_>,
+    own: ShownCertificate<'_>,
+    other: ShownCertificate<'_>,
     shapes: (&Shape, &Shape),
     cycles: &[Option<u32>],
 ) -> Result<Merged, Memory> {
@@ -104,8 +104,8 @@ fn walked(
 /// What comes of both, where our tree has this shape.
 fn shaped(
     alloc: Global,
-    own: Shown<'_>,
-    other: Shown<'_>,
+    own: ShownCertificate<'_>,
+    other: ShownCertificate<'_>,
     shape: &Shape,
 ) -> Result<Merged, Memory> {
     let cycles = common_cycles(alloc, own.certificate(), other.certificate())?;
@@ -120,7 +120,11 @@ fn shaped(
 /// pass the same rows, and lemmas where they stand at the same place and say the same; those that are new are put behind the others.
 /// Leaves keep what they show: where the scales differ, their
 /// multipliers are told by a multiple of both. The times are the cheaper ones.
-pub fn merge(alloc: Global, own: Shown<'_>, other: Shown<'_>) -> Result<Merged, Memory> {
+pub fn merge(
+    alloc: Global,
+    own: ShownCertificate<'_>,
+    other: ShownCertificate<'_>,
+) -> Result<Merged, Memory> {
     let shape = Shape::of(alloc, own.certificate().tree(), own.costs)?;
     let merged = shaped(alloc, own, other, &shape);
     drop(shape);

@@ -1,6 +1,6 @@
 //! Two certificates whose trees are walked through together, as one.
 
-use crate::answers::{answer_of, copied_times, cost_of, lesser};
+use crate::answers::{answer_of, copied_times, lesser};
 use crate::factors::{Factors, factors_of};
 use crate::fronts::{joined_cycles, joined_walks, walks_of};
 use crate::lemmas::{joined_lemmas, lemmas_of};
@@ -14,7 +14,7 @@ use std::alloc::Global;
 
 /// A certificate, and for each line of its tree what it shows, where it is a bound leaf.
 #[derive(Clone, Copy)]
-pub struct Shown<'a> {
+pub struct ShownCertificate<'a> {
     pub fronted: &'a Fronted,
     pub costs: &'a [Option<u64>],
 }
@@ -22,14 +22,14 @@ pub struct Shown<'a> {
 /// Two certificates whose trees were walked through.
 #[derive(Clone, Copy)]
 pub(crate) struct Pairing<'a> {
-    pub(crate) own: Shown<'a>,
-    pub(crate) other: Shown<'a>,
+    pub(crate) own: ShownCertificate<'a>,
+    pub(crate) other: ShownCertificate<'a>,
     pub(crate) trees: Trees<'a>,
     pub(crate) runs: &'a [Run],
     pub(crate) common: Common<'a>,
 }
 
-impl<'a> Shown<'a> {
+impl<'a> ShownCertificate<'a> {
     /// The certificate behind the front.
     pub(crate) fn certificate(&self) -> &'a Certificate {
         let fronted = self.fronted;
@@ -44,7 +44,7 @@ impl<'a> Shown<'a> {
 
     /// The cost of its times.
     pub(crate) fn cost(&self) -> Option<u64> {
-        cost_of(self.certificate().answer())
+        self.certificate().answer().cost()
     }
 }
 

@@ -2,51 +2,51 @@
 
 /// Whether an offset is at most or at least so much.
 #[derive(Clone, Copy, PartialEq, Eq)]
-pub enum Side {
+pub enum BoundSense {
     AtMost,
     AtLeast,
 }
 
 /// The offset of a cycle, numbered from 0, is at most or at least so much.
 #[derive(Clone, Copy, PartialEq, Eq)]
-pub struct Branch {
+pub struct OffsetBound {
     pub cycle: u32,
-    pub side: Side,
+    pub side: BoundSense,
     pub offset: i64,
 }
 
 /// A cut of the offsets of a cycle, numbered from 0, into those up to one and those above it.
 #[derive(Clone, Copy, PartialEq, Eq)]
-pub struct Cut {
+pub struct OffsetCut {
     pub cycle: u32,
     pub most: i64,
 }
 
-impl Side {
+impl BoundSense {
     /// The sign of a multiplier of this side in a pair.
     pub fn signed(self, multiplier: i64) -> i64 {
         match self {
-            Side::AtMost => multiplier.wrapping_neg(),
-            Side::AtLeast => multiplier,
+            BoundSense::AtMost => multiplier.wrapping_neg(),
+            BoundSense::AtLeast => multiplier,
         }
     }
 }
 
-impl Branch {
+impl OffsetBound {
     /// Whether another one bounds the same cycle on the same side.
-    pub(crate) fn is_of(self, cycle: u32, side: Side) -> bool {
+    pub(crate) fn is_of(self, cycle: u32, side: BoundSense) -> bool {
         self.cycle == cycle && self.side == side
     }
 }
 
-impl Cut {
+impl OffsetCut {
     /// What holds in a part.
-    pub fn part(self, side: Side) -> Branch {
+    pub fn part(self, side: BoundSense) -> OffsetBound {
         let offset = match side {
-            Side::AtMost => self.most,
-            Side::AtLeast => self.most.saturating_add(1),
+            BoundSense::AtMost => self.most,
+            BoundSense::AtLeast => self.most.saturating_add(1),
         };
-        Branch {
+        OffsetBound {
             cycle: self.cycle,
             side,
             offset,

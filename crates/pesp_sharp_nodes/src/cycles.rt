@@ -1,6 +1,6 @@
 //! The fundamental cycles of one forest, whose offsets are branched on.
 
-use crate::branch::{Branch, Side};
+use crate::branch::{BoundSense, OffsetBound};
 use crate::limit::UNIT;
 use pesp_dual::Term;
 use pesp_forest::Frame;
@@ -27,7 +27,7 @@ pub struct Cycle {
 
 /// The least and the greatest sum of durations along a cycle, and that of lower bounds, in the instance's unit of time.
 #[derive(Clone, Copy)]
-struct Sums {
+struct CycleSums {
     least: i64,
     greatest: i64,
     lower: i64,
@@ -43,14 +43,14 @@ fn key_of(row: &NetRow, unit: u32) -> i64 {
 
 impl Range {
     /// The range that a bound on the offset leaves.
-    pub fn narrowed(self, branch: Branch) -> Range {
+    pub fn narrowed(self, branch: OffsetBound) -> Range {
         let Range { least, most } = self;
         match branch.side {
-            Side::AtMost => Range {
+            BoundSense::AtMost => Range {
                 least,
                 most: most.min(branch.offset),
             },
-            Side::AtLeast => Range {
+            BoundSense::AtLeast => Range {
                 least: least.max(branch.offset),
                 most,
             },
@@ -63,18 +63,18 @@ impl Range {
     }
 }
 
-impl Sums {
+impl CycleSums {
     /// A pass of a row more.
-    fn with(self, row: &NetRow, forwards: bool) -> Sums {
+    fn with(self, row: &NetRow, forwards: bool) -> CycleSums {
         let upper = row.lower.wrapping_add(i64::from(row.span));
         if forwards {
-            Sums {
+            CycleSums {
                 least: self.least.wrapping_add(row.lower),
                 greatest: self.greatest.wrapping_add(upper),
                 lower: self.lower.wrapping_add(row.lower),
             }
         } else {
-            Sums {
+            CycleSums {
                 least: self.least.wrapping_sub(upper),
                 greatest: self.greatest.wrapping_sub(row.lower),
                 lower: self.lower.wrapping_sub(row.lower),
@@ -83,8 +83,8 @@ impl Sums {
     }
 
     /// The sums along a cycle; None where it passes a row that isn't there.
-    fn along(frame: &Frame, passes: &[Pass]) -> Option<Sums> {
-        let mut sums = Sums {
+    fn along(frame: &Frame, passes: &[Pass]) -> Option<CycleSums> {
+        let mut sums = CycleSums {
             least: 0,
             greatest: 0,
             lower: 0,
@@ -108,7 +108,7 @@ impl Sums {
 impl Cycle {
     /// The cycle that passes these rows, the one outside the forest first; None where one isn't there.
     fn of(frame: &Frame, passes: Vec<Pass>, unit: u32) -> Option<Cycle> {
-        let sums = Sums::along(frame, &passes)?;
+        let sums = CycleSums::along(frame, &passes)?;
         let range = sums.range(i64::from(frame.period()))?;
         let first = passes.first()?.row;
         let weight = frame.row(first)?.weight.checked_div(u64::from(unit))?;
@@ -145,10 +145,10 @@ impl Cycle {
     }
 
     /// The coefficients of slacks in a bound on its offset.
-    pub fn terms(&self, alloc: Global, side: Side) -> Result<Vec<Term>, AllocError> {
+    pub fn terms(&self, alloc: Global, side: BoundSense) -> Result<Vec<Term>, AllocError> {
         let mut terms = Vec::with_capacity(alloc, self.passes.len())?;
         for pass in &self.passes {
-            let rises = pass.forwards == (side == Side::AtLeast);
+            let rises = pass.forwards == (side == BoundSense::AtLeast);
             terms.push(Term {
                 row: pass.row,
                 coefficient: if rises { 1 } else { -1 },
@@ -158,7 +158,7 @@ impl Cycle {
     }
 
     /// What these terms are at least by a bound on its offset.
-    pub fn least(&self, period: i64, branch: Branch) -> i64 {
+    pub fn least(&self, period: i64, branch: OffsetBound) -> i64 {
         let slack = period.wrapping_mul(branch.offset).wrapping_sub(self.lower);
         branch.side.signed(slack)
     }

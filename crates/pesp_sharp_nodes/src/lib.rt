@@ -12,11 +12,11 @@ mod rounds;
 mod setting;
 mod sharpener;
 
-pub use branch::{Branch, Cut, Side};
+pub use branch::{BoundSense, OffsetBound, OffsetCut};
 pub use cycles::{Cycle, Range};
 pub use limit::{Limit, UNIT, cost_shown};
-pub use node::Node;
+pub use node::ProgramNode;
 pub use pool::Pool;
-pub use relaxation::{Member, NO_MULTIPLIER, Origin, Relaxation};
+pub use relaxation::{NO_MULTIPLIER, NodeProgram, Origin, ProgramMember};
 pub use setting::Setting;
-pub use sharpener::Sharpener;
+pub use sharpener::NodeSharpener;

@@ -1,9 +1,9 @@
 //! Open leaves, as they are kept until they are split.
 
-use crate::branch::Branch;
+use crate::branch::OffsetBound;
 use crate::cycles::Range;
 use crate::pool::Pool;
-use crate::relaxation::{NO_MULTIPLIER, Origin, Relaxation, filled};
+use crate::relaxation::{NO_MULTIPLIER, NodeProgram, Origin, filled};
 use crate::setting::Setting;
 use pesp_dual::{Multiplier, Point};
 use std::alloc::{AllocError, Global};
@@ -13,7 +13,7 @@ const TIGHT: i64 = 1 << 12;
 
 /// An inequality of a node, and its multiplier.
 #[derive(Clone, Copy)]
-struct Held {
+struct HeldInequality {
     origin: Origin,
     multiplier: Multiplier,
 }
@@ -21,8 +21,8 @@ struct Held {
 /// What a node goes on from: its inequalities, its slacks, in 1/65536, and the weight of the two sides; whether it was solved
 /// out; and whether its slacks are still to be found.
 #[derive(Drop)]
-pub struct Node {
-    held: Vec<Held>,
+pub struct ProgramNode {
+    held: Vec<HeldInequality>,
     slacks: Vec<u32>,
     balance: i64,
     pub is_solved_out: bool,
@@ -55,9 +55,9 @@ fn sum_of(one: Multiplier, other: Multiplier) -> Multiplier {
     }
 }
 
-impl Held {
+impl HeldInequality {
     /// Whether it bounds the same offset on the same side.
-    fn is_weaker(&self, branch: Branch) -> bool {
+    fn is_weaker(&self, branch: OffsetBound) -> bool {
         match self.origin {
             Origin::Pooled(_) => false,
             Origin::Offset(own) => own.is_of(branch.cycle, branch.side),
@@ -66,7 +66,7 @@ impl Held {
 }
 
 /// The inequality of a program at a place, where it is worth keeping: it has a multiplier, is tight, or bounds an offset.
-fn held_at(relaxation: &Relaxation, place: usize, origin: Origin) -> Option<Held> {
+fn held_at(relaxation: &NodeProgram, place: usize, origin: Origin) -> Option<HeldInequality> {
     let multiplier = relaxation.program.multiplier(place);
     let is_used = multiplier.best > 0 || multiplier.current > 0;
     let is_kept = match origin {
@@ -74,17 +74,17 @@ fn held_at(relaxation: &Relaxation, place: usize, origin: Origin) -> Option<Held
         Origin::Pooled(_) => is_used || relaxation.program.excess(place) < TIGHT,
     };
     if is_kept {
-        Some(Held { origin, multiplier })
+        Some(HeldInequality { origin, multiplier })
     } else {
         None
     }
 }
 
 /// All inequalities of a program.
-fn all_held(alloc: Global, relaxation: &Relaxation) -> Result<Vec<Held>, AllocError> {
+fn all_held(alloc: Global, relaxation: &NodeProgram) -> Result<Vec<HeldInequality>, AllocError> {
     let mut held = Vec::with_capacity(alloc, relaxation.members.len())?;
     for (place, member) in relaxation.members.iter().enumerate() {
-        held.push(Held {
+        held.push(HeldInequality {
             origin: member.origin,
             multiplier: relaxation.program.multiplier(place),
         })?;
@@ -93,9 +93,9 @@ fn all_held(alloc: Global, relaxation: &Relaxation) -> Result<Vec<Held>, AllocEr
 }
 
 /// Takes in inequalities of the pool whose multipliers aren't sought yet.
-fn add_common(held: &mut Vec<Held>, common: &[u32]) -> Result<(), AllocError> {
+fn add_common(held: &mut Vec<HeldInequality>, common: &[u32]) -> Result<(), AllocError> {
     for number in common {
-        held.push(Held {
+        held.push(HeldInequality {
             origin: Origin::Pooled(*number),
             multiplier: NO_MULTIPLIER,
         })?;
@@ -103,9 +103,9 @@ fn add_common(held: &mut Vec<Held>, common: &[u32]) -> Result<(), AllocError> {
     Ok(())
 }
 
-impl Node {
+impl ProgramNode {
     /// What is kept of a program.
-    pub fn of(alloc: Global, relaxation: &Relaxation) -> Result<Node, AllocError> {
+    pub fn of(alloc: Global, relaxation: &NodeProgram) -> Result<ProgramNode, AllocError> {
         let mut held = Vec::new(alloc);
         for (place, member) in relaxation.members.iter().enumerate() {
             if let Some(found) = held_at(relaxation, place, member.origin) {
@@ -113,7 +113,7 @@ impl Node {
             }
         }
         let point = relaxation.program.point(alloc)?;
-        Ok(Node {
+        Ok(ProgramNode {
             held,
             slacks: packed(alloc, &point.slacks)?,
             balance: point.balance,
@@ -125,14 +125,14 @@ impl Node {
     /// What is kept of a program that has no slacks yet. Where no inequality of the pool is in it, these are taken in.
     pub fn cold(
         alloc: Global,
-        relaxation: &Relaxation,
+        relaxation: &NodeProgram,
         common: &[u32],
-    ) -> Result<Node, AllocError> {
+    ) -> Result<ProgramNode, AllocError> {
         let mut held = all_held(alloc, relaxation)?;
         if !relaxation.has_pooled() {
             add_common(&mut held, common)?;
         }
-        Ok(Node {
+        Ok(ProgramNode {
             held,
             slacks: Vec::new(alloc),
             balance: relaxation.program.point(alloc)?.balance,
@@ -171,8 +171,8 @@ impl Node {
         alloc: Global,
         setting: &Setting,
         pool: &Pool,
-    ) -> Result<Relaxation, AllocError> {
-        let mut relaxation = Relaxation::new(alloc, setting)?;
+    ) -> Result<NodeProgram, AllocError> {
+        let mut relaxation = NodeProgram::new(alloc, setting)?;
         let outcome = self.load(alloc, setting, pool, &mut relaxation);
         filled(relaxation, outcome)
     }
@@ -183,7 +183,7 @@ impl Node {
         alloc: Global,
         setting: &Setting,
         pool: &Pool,
-        relaxation: &mut Relaxation,
+        relaxation: &mut NodeProgram,
     ) -> Result<(), AllocError> {
         for held in &self.held {
             relaxation.add(alloc, setting, pool, held.origin, held.multiplier)?;
@@ -192,7 +192,7 @@ impl Node {
     }
 
     /// Puts the slacks into a program.
-    fn place(&self, alloc: Global, relaxation: &mut Relaxation) -> Result<(), AllocError> {
+    fn place(&self, alloc: Global, relaxation: &mut NodeProgram) -> Result<(), AllocError> {
         relaxation.program.set_point(&self.point(alloc)?);
         relaxation.program.settle_counts();
         Ok(())
@@ -204,9 +204,9 @@ impl Node {
         alloc: Global,
         setting: &Setting,
         pool: &Pool,
-        branch: Branch,
-    ) -> Result<Relaxation, AllocError> {
-        let mut relaxation = Relaxation::new(alloc, setting)?;
+        branch: OffsetBound,
+    ) -> Result<NodeProgram, AllocError> {
+        let mut relaxation = NodeProgram::new(alloc, setting)?;
         let outcome = self.load_part(alloc, setting, pool, branch, &mut relaxation);
         filled(relaxation, outcome)
     }
@@ -217,8 +217,8 @@ impl Node {
         alloc: Global,
         setting: &Setting,
         pool: &Pool,
-        branch: Branch,
-        relaxation: &mut Relaxation,
+        branch: OffsetBound,
+        relaxation: &mut NodeProgram,
     ) -> Result<(), AllocError> {
         let mut left = NO_MULTIPLIER;
         for held in &self.held {

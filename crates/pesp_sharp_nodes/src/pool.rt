@@ -8,7 +8,7 @@ use std::mem::swap;
 
 /// An inequality with its key, how many nodes keep it, and how many leaves have a multiplier of it.
 #[derive(Drop)]
-struct Entry {
+struct PoolEntry {
     inequality: Inequality,
     key: u64,
     kept: u32,
@@ -19,7 +19,7 @@ struct Entry {
 /// inequalities leaves have multipliers of, with how many passes.
 #[derive(Drop)]
 pub struct Pool {
-    entries: Vec<Entry>,
+    entries: Vec<PoolEntry>,
     free: Vec<u32>,
     places: IndexMap<u64, u32>,
     told: usize,
@@ -27,8 +27,8 @@ pub struct Pool {
 }
 
 /// An entry without an inequality.
-fn empty_entry(alloc: Global) -> Entry {
-    Entry {
+fn empty_entry(alloc: Global) -> PoolEntry {
+    PoolEntry {
         inequality: Inequality {
             passes: Vec::new(alloc),
             terms: Vec::new(alloc),
@@ -78,7 +78,7 @@ impl Pool {
     }
 
     /// The entry of a number.
-    fn entry(&self, number: u32) -> Option<&Entry> {
+    fn entry(&self, number: u32) -> Option<&PoolEntry> {
         self.entries.get(number as usize)
     }
 

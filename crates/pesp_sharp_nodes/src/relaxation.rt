@@ -1,6 +1,6 @@
 //! The linear program of a node.
 
-use crate::branch::Branch;
+use crate::branch::OffsetBound;
 use crate::limit::{Limit, cost_shown};
 use crate::pool::Pool;
 use crate::setting::Setting;
@@ -29,21 +29,21 @@ const MISSED: i64 = 1 << 8;
 #[derive(Clone, Copy)]
 pub enum Origin {
     Pooled(u32),
-    Offset(Branch),
+    Offset(OffsetBound),
 }
 
 /// An inequality of a program: what it is, and for how many rounds in a row nothing came of it.
 #[derive(Clone, Copy)]
-pub struct Member {
+pub struct ProgramMember {
     pub origin: Origin,
     pub idle: u32,
 }
 
 /// A program, and what its inequalities are, in order.
 #[derive(Drop)]
-pub struct Relaxation {
+pub struct NodeProgram {
     pub program: Program,
-    pub members: Vec<Member>,
+    pub members: Vec<ProgramMember>,
 }
 
 /// A multiplier that isn't sought yet.
@@ -54,9 +54,9 @@ pub const NO_MULTIPLIER: Multiplier = Multiplier {
 
 /// A program where it was filled; else it goes.
 pub(crate) fn filled(
-    relaxation: Relaxation,
+    relaxation: NodeProgram,
     outcome: Result<(), AllocError>,
-) -> Result<Relaxation, AllocError> {
+) -> Result<NodeProgram, AllocError> {
     match outcome {
         Ok(()) => Ok(relaxation),
         Err(error) => {
@@ -66,10 +66,10 @@ pub(crate) fn filled(
     }
 }
 
-impl Relaxation {
+impl NodeProgram {
     /// The program without an inequality.
-    pub fn new(alloc: Global, setting: &Setting) -> Result<Relaxation, AllocError> {
-        Ok(Relaxation {
+    pub fn new(alloc: Global, setting: &Setting) -> Result<NodeProgram, AllocError> {
+        Ok(NodeProgram {
             program: Program::new(alloc, setting.frame.rows(), setting.scale)?,
             members: Vec::new(alloc),
         })
@@ -98,7 +98,7 @@ impl Relaxation {
     ) -> Result<(), AllocError> {
         self.program
             .add(pool.terms(number), pool.least(number), multiplier)?;
-        self.members.push(Member {
+        self.members.push(ProgramMember {
             origin: Origin::Pooled(number),
             idle: 0,
         })?;
@@ -110,7 +110,7 @@ impl Relaxation {
         &mut self,
         alloc: Global,
         setting: &Setting,
-        branch: Branch,
+        branch: OffsetBound,
         multiplier: Multiplier,
     ) -> Result<(), AllocError> {
         let Some(cycle) = setting.cycle(branch.cycle) else {
@@ -119,7 +119,7 @@ impl Relaxation {
         let terms = cycle.terms(alloc, branch.side)?;
         let least = cycle.least(setting.period(), branch);
         self.program.add(&terms, least, multiplier)?;
-        self.members.push(Member {
+        self.members.push(ProgramMember {
             origin: Origin::Offset(branch),
             idle: 0,
         })?;

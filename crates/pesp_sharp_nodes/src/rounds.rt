@@ -1,8 +1,8 @@
 //! The rounds at the root: inequalities are sought, and those of which nothing comes go.
 
 use crate::limit::Limit;
-use crate::relaxation::{Member, Origin, Relaxation, filled};
-use crate::sharpener::Sharpener;
+use crate::relaxation::{NodeProgram, Origin, ProgramMember, filled};
+use crate::sharpener::NodeSharpener;
 use pesp_inequalities::Seen;
 use std::alloc::{AllocError, Global};
 
@@ -40,7 +40,7 @@ fn rounds_for(rows: usize) -> usize {
 }
 
 /// Whether nothing comes of the inequality of the pool at a place.
-fn is_idle(relaxation: &Relaxation, place: usize, origin: Origin) -> bool {
+fn is_idle(relaxation: &NodeProgram, place: usize, origin: Origin) -> bool {
     if let Origin::Offset(_) = origin {
         return false;
     }
@@ -49,7 +49,7 @@ fn is_idle(relaxation: &Relaxation, place: usize, origin: Origin) -> bool {
 }
 
 /// Counts for how many rounds nothing came of each inequality.
-fn count_idle(alloc: Global, relaxation: &mut Relaxation) -> Result<Vec<bool>, AllocError> {
+fn count_idle(alloc: Global, relaxation: &mut NodeProgram) -> Result<Vec<bool>, AllocError> {
     let mut kept = Vec::with_capacity(alloc, relaxation.members.len())?;
     for place in 0..relaxation.members.len() {
         let Some(origin) = relaxation.members.get(place).map(|member| member.origin) else {
@@ -69,7 +69,11 @@ fn count_idle(alloc: Global, relaxation: &mut Relaxation) -> Result<Vec<bool>, A
 }
 
 /// The members that are marked.
-fn marked(alloc: Global, members: &[Member], marks: &[bool]) -> Result<Vec<Member>, AllocError> {
+fn marked(
+    alloc: Global,
+    members: &[ProgramMember],
+    marks: &[bool],
+) -> Result<Vec<ProgramMember>, AllocError> {
     let mut kept = Vec::with_capacity(alloc, members.len())?;
     for (member, is_marked) in members.iter().zip(marks.iter()) {
         if *is_marked {
@@ -79,11 +83,11 @@ fn marked(alloc: Global, members: &[Member], marks: &[bool]) -> Result<Vec<Membe
     Ok(kept)
 }
 
-impl Sharpener {
+impl NodeSharpener {
     /// The inequalities that aren't marked may be found anew.
     fn forget(
         &mut self,
-        members: &[Member],
+        members: &[ProgramMember],
         marks: &[bool],
         seen: &mut Seen,
     ) -> Result<(), AllocError> {
@@ -103,7 +107,7 @@ impl Sharpener {
     /// Drops inequalities of which nothing came for some rounds.
     fn drop_idle(
         &mut self,
-        relaxation: &mut Relaxation,
+        relaxation: &mut NodeProgram,
         seen: &mut Seen,
     ) -> Result<(), AllocError> {
         let marks = count_idle(self.alloc, relaxation)?;
@@ -117,7 +121,7 @@ impl Sharpener {
     }
 
     /// The rounds, until little comes of them or the limit is reached.
-    fn rounds(&mut self, relaxation: &mut Relaxation, limit: Limit) -> Result<(), AllocError> {
+    fn rounds(&mut self, relaxation: &mut NodeProgram, limit: Limit) -> Result<(), AllocError> {
         let mut seen = self.seen_in(relaxation)?;
         let rows = self.setting.frame.rows().len();
         let most = (rows / 2).max(50);
@@ -141,7 +145,7 @@ impl Sharpener {
     /// All rounds, and then some steps.
     pub(crate) fn look_long(
         &mut self,
-        relaxation: &mut Relaxation,
+        relaxation: &mut NodeProgram,
         limit: Limit,
     ) -> Result<(), AllocError> {
         self.rounds(relaxation, limit)?;
@@ -150,8 +154,8 @@ impl Sharpener {
     }
 
     /// The program of the root after all rounds.
-    pub fn root(&mut self, limit: Limit) -> Result<Relaxation, AllocError> {
-        let mut relaxation = Relaxation::new(self.alloc, &self.setting)?;
+    pub fn root(&mut self, limit: Limit) -> Result<NodeProgram, AllocError> {
+        let mut relaxation = NodeProgram::new(self.alloc, &self.setting)?;
         let outcome = self.look_long(&mut relaxation, limit);
         filled(relaxation, outcome)
     }

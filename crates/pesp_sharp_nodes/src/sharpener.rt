@@ -1,10 +1,10 @@
 //! The programs of nodes, and the inequalities that are found for them.
 
-use crate::branch::Branch;
+use crate::branch::OffsetBound;
 use crate::limit::Limit;
-use crate::node::Node;
+use crate::node::ProgramNode;
 use crate::pool::Pool;
-use crate::relaxation::{NO_MULTIPLIER, Origin, Relaxation, filled};
+use crate::relaxation::{NO_MULTIPLIER, NodeProgram, Origin, filled};
 use crate::setting::Setting;
 use pesp_dual::{Multiplier, Program};
 use pesp_inequalities::{Inequality, Pass, Seen, Separator};
@@ -34,14 +34,14 @@ fn multiplier_of(told: i64, scale: u32) -> Multiplier {
 /// What programs of nodes are made from: a network with its cycles, the inequalities that were found, and the search for
 /// more of them.
 #[derive(Drop)]
-pub struct Sharpener {
+pub struct NodeSharpener {
     pub alloc: Global,
     pub setting: Setting,
     pub pool: Pool,
     separator: Separator,
 }
 
-impl Sharpener {
+impl NodeSharpener {
     /// No inequality is found yet; the seed decides which forests are drawn, multipliers are told by the scale, and weights are
     /// in units of which so many make up one.
     pub fn new(
@@ -50,10 +50,10 @@ impl Sharpener {
         seed: u64,
         scale: u32,
         unit: u32,
-    ) -> Result<Sharpener, AllocError> {
+    ) -> Result<NodeSharpener, AllocError> {
         let setting = Setting::new(alloc, network, scale, unit)?;
         match Separator::new(alloc, &setting.frame, seed) {
-            Ok(separator) => Ok(Sharpener {
+            Ok(separator) => Ok(NodeSharpener {
                 alloc,
                 setting,
                 pool: Pool::new(alloc),
@@ -69,7 +69,7 @@ impl Sharpener {
     /// Takes in inequalities that the slacks violate; whether there are any.
     pub(crate) fn separate(
         &mut self,
-        relaxation: &mut Relaxation,
+        relaxation: &mut NodeProgram,
         seen: &mut Seen,
         is_wide: bool,
         each: usize,
@@ -106,7 +106,7 @@ impl Sharpener {
     }
 
     /// The keys of a program's inequalities.
-    pub(crate) fn seen_in(&self, relaxation: &Relaxation) -> Result<Seen, AllocError> {
+    pub(crate) fn seen_in(&self, relaxation: &NodeProgram) -> Result<Seen, AllocError> {
         let mut seen = Seen::new(self.alloc);
         for member in &relaxation.members {
             if let Origin::Pooled(number) = member.origin
@@ -119,7 +119,7 @@ impl Sharpener {
     }
 
     /// A few rounds of separation, until the limit is reached.
-    fn sharpen(&mut self, relaxation: &mut Relaxation, limit: Limit) -> Result<(), AllocError> {
+    fn sharpen(&mut self, relaxation: &mut NodeProgram, limit: Limit) -> Result<(), AllocError> {
         let mut seen = self.seen_in(relaxation)?;
         for _ in 0..ROUNDS {
             if relaxation.bound() >= limit.cost {
@@ -134,7 +134,7 @@ impl Sharpener {
     }
 
     /// The program of a node.
-    pub fn loaded(&self, node: &Node) -> Result<Relaxation, AllocError> {
+    pub fn loaded(&self, node: &ProgramNode) -> Result<NodeProgram, AllocError> {
         node.loaded(self.alloc, &self.setting, &self.pool)
     }
 
@@ -165,10 +165,10 @@ impl Sharpener {
     /// The program of a leaf that is told: of bounds on offsets, and of inequalities of the pool, with their multipliers.
     pub fn told(
         &self,
-        offsets: &[(Branch, i64)],
+        offsets: &[(OffsetBound, i64)],
         walks: &[(u32, i64)],
-    ) -> Result<Relaxation, AllocError> {
-        let mut relaxation = Relaxation::new(self.alloc, &self.setting)?;
+    ) -> Result<NodeProgram, AllocError> {
+        let mut relaxation = NodeProgram::new(self.alloc, &self.setting)?;
         let outcome = self.tell(offsets, walks, &mut relaxation);
         filled(relaxation, outcome)
     }
@@ -176,9 +176,9 @@ impl Sharpener {
     /// Puts bounds on offsets and inequalities into a program, with their multipliers.
     fn tell(
         &self,
-        offsets: &[(Branch, i64)],
+        offsets: &[(OffsetBound, i64)],
         walks: &[(u32, i64)],
-        relaxation: &mut Relaxation,
+        relaxation: &mut NodeProgram,
     ) -> Result<(), AllocError> {
         let scale = self.setting.scale;
         for (branch, told) in offsets {
@@ -192,7 +192,7 @@ impl Sharpener {
     }
 
     /// Takes some steps and rounds over a program: all rounds at the root.
-    fn warm(&mut self, relaxation: &mut Relaxation, limit: Limit) -> Result<(), AllocError> {
+    fn warm(&mut self, relaxation: &mut NodeProgram, limit: Limit) -> Result<(), AllocError> {
         if relaxation.has_offset() {
             relaxation.settle(limit);
             self.sharpen(relaxation, limit)
@@ -202,7 +202,7 @@ impl Sharpener {
     }
 
     /// The program of a node whose slacks are still to be found, after some steps and rounds: all rounds at the root.
-    pub fn warmed(&mut self, node: &Node, limit: Limit) -> Result<Relaxation, AllocError> {
+    pub fn warmed(&mut self, node: &ProgramNode, limit: Limit) -> Result<NodeProgram, AllocError> {
         let mut relaxation = self.loaded(node)?;
         let outcome = self.warm(&mut relaxation, limit);
         filled(relaxation, outcome)
@@ -211,10 +211,10 @@ impl Sharpener {
     /// The program of a part of a node, after some steps and rounds.
     pub fn part(
         &mut self,
-        node: &Node,
-        branch: Branch,
+        node: &ProgramNode,
+        branch: OffsetBound,
         limit: Limit,
-    ) -> Result<Relaxation, AllocError> {
+    ) -> Result<NodeProgram, AllocError> {
         let mut relaxation = node.part(self.alloc, &self.setting, &self.pool, branch)?;
         relaxation.settle(limit);
         let outcome = self.sharpen(&mut relaxation, limit);
@@ -231,13 +231,13 @@ impl Sharpener {
     }
 
     /// Takes steps over a program until little is left to be gained, or the limit is reached.
-    pub fn solve_out(&self, relaxation: &mut Relaxation, limit: Limit) -> Result<(), AllocError> {
+    pub fn solve_out(&self, relaxation: &mut NodeProgram, limit: Limit) -> Result<(), AllocError> {
         let balance = self.first_balance()?;
         relaxation.solve_out(self.alloc, balance, limit)
     }
 
     /// The inequalities of a program that nothing keeps go.
-    pub fn sweep(&mut self, relaxation: &Relaxation) -> Result<(), AllocError> {
+    pub fn sweep(&mut self, relaxation: &NodeProgram) -> Result<(), AllocError> {
         for member in &relaxation.members {
             if let Origin::Pooled(number) = member.origin {
                 self.pool.sweep(self.alloc, number)?;

@@ -34,15 +34,6 @@ pub(crate) fn shown_by(
     Ok(timetable_of(instance, times))
 }
 
-/// The cost of the times that an answer shows; `u64::MAX` where it shows none.
-pub(crate) fn cost_of(answer: Answer) -> u64 {
-    match answer {
-        Answer::Optimal(cost) => cost,
-        Answer::Infeasible => u64::MAX,
-        Answer::Bounded { cost, .. } => cost.unwrap_or(u64::MAX),
-    }
-}
-
 /// Whether an answer leaves something to be found.
 pub(crate) fn is_open(answer: Answer) -> bool {
     matches!(answer, Answer::Bounded { .. })

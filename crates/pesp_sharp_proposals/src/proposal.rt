@@ -1,19 +1,18 @@
 //! The certificates that a search proposes. They are judged by others.
 
-use crate::best::{Best, cost_of};
+use crate::best::Best;
 use crate::bounding::Bounding;
 use crate::search::SharpSearch;
 use pesp_cert::{Certificate, Front, Fronted, Marks, ShownLemma};
-use pesp_judges::least_of;
 use pesp_problem::{Instance, Memory, Walk};
 use pesp_regions::ToldRegions;
 use pesp_sharp_trees::{
-    Kept, Left, Numbers, copied_lemmas, copied_lines, copied_marks, copied_walks, crossing_walks,
-    lemmas_of_regions, lifted_of, lines_of, marked_of, offset_shifts, region_leaf, scale_walk,
-    some_wants_scale,
+    CertificateNumbers, KeptLines, Left, copied_lemmas, copied_lines, copied_marks, copied_walks,
+    crossing_walks, lemmas_of_regions, lifted_of, lines_of, marked_of, offset_shifts, region_leaf,
+    scale_walk, some_wants_scale,
 };
 use pesp_sharpener::Proposals;
-use pesp_sharpening::{Line, Sharpened};
+use pesp_sharpening::{SharpLine, Sharpened};
 use pesp_truth::{Answer, TreeLine};
 use std::alloc::Global;
 
@@ -23,7 +22,7 @@ const MOST_BOUND: u64 = 999_999_999_999_999_999;
 /// What proposals are made of: an instance and what is left of it, what was found, its scale, the best timetable, and the
 /// certificate whose tree was taken up, where one was.
 #[derive(Clone, Copy)]
-struct Parts<'a> {
+struct ProposalParts<'a> {
     left: Left<'a>,
     sharpened: &'a Sharpened,
     scale: u32,
@@ -32,10 +31,10 @@ struct Parts<'a> {
 }
 
 /// Whether a line shows a bound.
-fn shows_bound(line: &Line) -> bool {
+fn shows_bound(line: &SharpLine) -> bool {
     match line {
-        Line::Bound(_) => true,
-        Line::Kept { bound, .. } => *bound < u64::MAX,
+        SharpLine::Bound(_) => true,
+        SharpLine::Kept { bound, .. } => *bound < u64::MAX,
         _ => false,
     }
 }
@@ -84,7 +83,7 @@ fn add_walks(walks: &mut Vec<Walk>, more: Vec<Walk>) -> Result<(), Memory> {
     Ok(())
 }
 
-impl<'a> Parts<'a> {
+impl<'a> ProposalParts<'a> {
     /// The cycles of the instance: those of the base, and behind them the others that the tree names, lifted; None where these
     /// would pass a limit.
     fn cycles(&self, alloc: Global) -> Result<Option<Vec<Walk>>, Memory> {
@@ -102,11 +101,11 @@ impl<'a> Parts<'a> {
     }
 
     /// The lines of a base that are kept.
-    fn kept(&self, alloc: Global) -> Result<Option<Kept<'a>>, Memory> {
+    fn kept(&self, alloc: Global) -> Result<Option<KeptLines<'a>>, Memory> {
         match self.base {
             Some(base) => {
                 let lines = &self.sharpened.lines;
-                Ok(Some(Kept::of(alloc, self.left.network, base, lines)?))
+                Ok(Some(KeptLines::of(alloc, self.left.network, base, lines)?))
             }
             None => Ok(None),
         }
@@ -117,11 +116,11 @@ impl<'a> Parts<'a> {
         &self,
         alloc: Global,
         cycles: &[Walk],
-        kept: &Option<Kept<'a>>,
+        kept: &Option<KeptLines<'a>>,
     ) -> Result<Vec<TreeLine>, Memory> {
         let own = &self.sharpened.cycles;
         let shifts = offset_shifts(self.left, own, cycles)?;
-        let numbers = Numbers {
+        let numbers = CertificateNumbers {
             cycles: u32::try_from(cycles.len()).unwrap_or(u32::MAX),
             walks: u32::try_from(self.sharpened.walks.len()).unwrap_or(u32::MAX),
             shifts: &shifts,
@@ -141,7 +140,7 @@ impl<'a> Parts<'a> {
     fn certificate(
         &self,
         alloc: Global,
-        kept: &Option<Kept<'a>>,
+        kept: &Option<KeptLines<'a>>,
     ) -> Result<Option<Certificate>, Memory> {
         let answer = answer_of(self.sharpened, self.best);
         let period = self.left.instance.period();
@@ -161,7 +160,7 @@ impl<'a> Parts<'a> {
     }
 
     /// The scale and the marked walks; None where they would pass a limit.
-    fn marks(&self, alloc: Global, kept: &Option<Kept<'a>>) -> Result<Option<Marks>, Memory> {
+    fn marks(&self, alloc: Global, kept: &Option<KeptLines<'a>>) -> Result<Option<Marks>, Memory> {
         let Some(mut walks) = marked_of(alloc, self.left.reduced, &self.sharpened.walks)? else {
             return Ok(None);
         };
@@ -175,7 +174,7 @@ impl<'a> Parts<'a> {
     }
 
     /// The front; None where it would pass a limit.
-    fn front(&self, alloc: Global, kept: &Option<Kept<'a>>) -> Result<Option<Front>, Memory> {
+    fn front(&self, alloc: Global, kept: &Option<KeptLines<'a>>) -> Result<Option<Front>, Memory> {
         let Some(marks) = self.marks(alloc, kept)? else {
             return Ok(None);
         };
@@ -212,7 +211,7 @@ impl<'a> Parts<'a> {
 }
 
 /// The lemmas of a base, where lines that are kept name one.
-fn lemmas_of(alloc: Global, kept: &Option<Kept<'_>>) -> Result<Vec<ShownLemma>, Memory> {
+fn lemmas_of(alloc: Global, kept: &Option<KeptLines<'_>>) -> Result<Vec<ShownLemma>, Memory> {
     match kept {
         Some(kept) => kept.lemmas(alloc),
         None => Ok(Vec::new(alloc)),
@@ -239,7 +238,7 @@ fn with_times(
     let times = labelled(alloc, instance, best)?;
     let cycles = copied_walks(alloc, old.cycles())?;
     let tree = copied_lines(alloc, old.tree())?;
-    let answer = answer_beside(least_of(old.answer()), best);
+    let answer = answer_beside(old.answer().least(), best);
     Ok(Certificate::new(old.version(), old.period(), answer, times, cycles, tree).ok())
 }
 
@@ -270,7 +269,12 @@ fn timed_of(
     best: &Option<Best>,
 ) -> Result<Option<Fronted>, Memory> {
     match best {
-        Some(found) if found.cost < cost_of(old.certificate.answer()) => {}
+        Some(found)
+            if old
+                .certificate
+                .answer()
+                .cost()
+                .is_none_or(|cost| found.cost < cost) => {}
         _ => return Ok(None),
     }
     let Some(certificate) = with_times(alloc, instance, &old.certificate, best)? else {
@@ -372,7 +376,7 @@ fn tree_fronted(
     base: &Fronted,
 ) -> Result<Option<Fronted>, Memory> {
     let sharpened = search.sharpening.sharpened()?;
-    let parts = Parts {
+    let parts = ProposalParts {
         left,
         sharpened: &sharpened,
         scale: search.sharpening.scale(),

@@ -4,9 +4,9 @@ ghost use Rattle.std.specs.Prelude.{◌≡◌};
 
 use crate::best::is_open;
 use crate::proposal::proposals_of;
-use crate::search::{Chosen, Next, SharpSearch};
+use crate::search::{Chosen, NextTask, SharpSearch};
 use pesp_cert::Fronted;
-use pesp_finder::TimesFinder;
+use pesp_forest::TimesFinder;
 use pesp_problem::{Instance, Memory};
 use pesp_reduce::{Reduced, reduce};
 use pesp_sharp_trees::{Left, scale_for, scale_over};
@@ -23,7 +23,7 @@ pub(crate) struct Proposing {
 
 /// How a search goes on from a certificate: from some of its leaves, where these are named; or with a share of regions alone.
 #[derive(Clone, Copy)]
-pub(crate) struct Beginning<'a> {
+pub(crate) struct ChosenLeaves<'a> {
     pub(crate) leaves: Option<Leaves<'a>>,
     pub(crate) share: Option<Share>,
 }
@@ -38,7 +38,7 @@ fn chosen_of(alloc: Global, leaves: Leaves<'_>) -> Result<Chosen, Memory> {
 
 /// A search from the root.
 fn from_root(left: Left<'_>, plain: &Fronted, pace: Pace) -> Result<SharpSearch, Memory> {
-    let mut search = SharpSearch::new(left, scale_for(left.network), Next::Root, pace)?;
+    let mut search = SharpSearch::new(left, scale_for(left.network), NextTask::Root, pace)?;
     match search.begin_with(left, &plain.certificate) {
         Ok(()) => Ok(search),
         Err(refused) => {
@@ -52,7 +52,7 @@ fn from_root(left: Left<'_>, plain: &Fronted, pace: Pace) -> Result<SharpSearch,
 fn ready_from<F: TimesFinder>(
     left: Left<'_>,
     base: &Fronted,
-    beginning: Beginning<'_>,
+    beginning: ChosenLeaves<'_>,
     search: &mut SharpSearch,
     finder: &mut F,
 ) -> Result<(), Memory>
@@ -72,14 +72,14 @@ fn ready_from<F: TimesFinder>(
 fn from_base<F: TimesFinder>(
     left: Left<'_>,
     base: &Fronted,
-    beginning: Beginning<'_>,
+    beginning: ChosenLeaves<'_>,
     pace: Pace,
     finder: &mut F,
 ) -> Result<SharpSearch, Memory>
     requires { left.reduced.now.original ≡ left.instance.now }
 {
     let scale = scale_over(base, left.network);
-    let mut search = SharpSearch::new(left, scale, Next::Base, pace)?;
+    let mut search = SharpSearch::new(left, scale, NextTask::Base, pace)?;
     match ready_from(left, base, beginning, &mut search, finder) {
         Ok(()) => Ok(search),
         Err(refused) => {
@@ -129,7 +129,7 @@ impl Proposing {
         alloc: Global,
         instance: &Instance,
         base: &Fronted,
-        beginning: Beginning<'_>,
+        beginning: ChosenLeaves<'_>,
         pace: Pace,
         finder: &mut F,
     ) -> Result<Option<Proposing>, Memory> {
@@ -175,6 +175,6 @@ impl Proposing {
 
     /// Whether nothing is left to be done.
     pub(crate) fn is_over(&self) -> bool {
-        self.search.next == Next::Nothing
+        self.search.next == NextTask::Nothing
     }
 }

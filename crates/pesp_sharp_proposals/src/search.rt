@@ -2,16 +2,15 @@
 
 ghost use Rattle.std.specs.Prelude.{◌≡◌};
 
-use crate::best::{Best, cost_of, offer, shown_by};
+use crate::best::{Best, offer, shown_by};
 use crate::bounding::{Bounding, may_have_regions};
-use crate::turns::{Turn, Turns};
+use crate::turns::{NextTurn, Turns};
 use pesp_cert::{Certificate, Fronted};
-use pesp_finder::{Effort, TimesFinder};
-use pesp_judges::least_of;
+use pesp_forest::{Effort, TimesFinder};
 use pesp_problem::{Memory, Score, score};
 use pesp_sharp_trees::{Left, given_of};
 use pesp_sharpener::{Pace, Share, SharpWatcher, Standing};
-use pesp_sharpening::{Line, Sharpened, Sharpening, Step};
+use pesp_sharpening::{SharpLine, Sharpened, Sharpening, Step};
 use pesp_simplex::{Improved, SimplexRefusal, improve};
 use pesp_truth::Answer;
 use std::mem::replace;
@@ -31,7 +30,7 @@ const SEED: u64 = 1;
 /// What a search does next: it sharpens the root, takes up the tree of a certificate, or splits leaves; or nothing is left to be
 /// done.
 #[derive(Clone, Copy, PartialEq, Eq)]
-pub(crate) enum Next {
+pub(crate) enum NextTask {
     Root,
     Base,
     Leaves,
@@ -55,7 +54,7 @@ pub(crate) struct SharpSearch {
     /// Regions beside the tree, where there are some.
     pub(crate) bounding: Option<Bounding>,
     pub(crate) has_taken_up: bool,
-    pub(crate) next: Next,
+    pub(crate) next: NextTask,
     pub(crate) chosen: Option<Chosen>,
     /// Whether regions alone are searched.
     pub(crate) is_shared: bool,
@@ -115,7 +114,7 @@ fn told_root(left: Left<'_>, base: &Fronted) -> Result<Option<Sharpened>, Memory
     }
     let root = given_of(left, base, &[])?;
     match root.lines.first() {
-        Some(Line::Bound(_)) => Ok(Some(root)),
+        Some(SharpLine::Bound(_)) => Ok(Some(root)),
         _ => {
             drop(root);
             Ok(None)
@@ -128,7 +127,7 @@ impl SharpSearch {
     pub(crate) fn new(
         left: Left<'_>,
         scale: u32,
-        next: Next,
+        next: NextTask,
         pace: Pace,
     ) -> Result<SharpSearch, Memory> {
         let sharpening = Sharpening::new(left.alloc, left.network, SEED, scale)?;
@@ -215,7 +214,7 @@ impl SharpSearch {
         requires { left.reduced.now.original ≡ left.instance.now }
     {
         self.is_shared = true;
-        self.next = Next::Leaves;
+        self.next = NextTask::Leaves;
         let bounding = self.part_by(left, base)?;
         drop(replace(&mut self.bounding, bounding));
         let Some(bounding) = &mut self.bounding else {
@@ -264,9 +263,9 @@ impl SharpSearch {
     /// Whether more is known than an answer tells: a greater bound, or a cheaper timetable.
     pub(crate) fn exceeds(&self, answer: Answer) -> bool {
         let bound = self.bound();
-        let is_sharper = least_of(answer).is_some_and(|least| bound > least);
+        let is_sharper = answer.least().is_some_and(|least| bound > least);
         match self.cost() {
-            Some(cost) => is_sharper || cost < cost_of(answer),
+            Some(cost) => is_sharper || answer.cost().is_none_or(|old| cost < old),
             None => is_sharper,
         }
     }
@@ -505,19 +504,19 @@ impl SharpSearch {
     }
 
     /// Whose turn it is: an anneal that has begun is ended first.
-    fn next_turn<F: TimesFinder>(&self, finder: &F) -> Turn {
+    fn next_turn<F: TimesFinder>(&self, finder: &F) -> NextTurn {
         match self.pace {
-            _ if finder.is_annealing() => Turn::Times,
+            _ if finder.is_annealing() => NextTurn::Times,
             Pace::Steps { .. } => self.turns.next_by_part(),
             Pace::Turns => self.turns.next_by_worth(),
         }
     }
 
     /// All work so far of the one whose turn it is, in numbers that were looked at.
-    fn work_of<F: TimesFinder>(&self, turn: Turn, finder: &F) -> u64 {
+    fn work_of<F: TimesFinder>(&self, turn: NextTurn, finder: &F) -> u64 {
         match turn {
-            Turn::Tree => self.bounding_work(),
-            Turn::Times => finder.work(),
+            NextTurn::Tree => self.bounding_work(),
+            NextTurn::Times => finder.work(),
         }
     }
 
@@ -539,8 +538,8 @@ impl SharpSearch {
         let turn = self.next_turn(finder);
         let before = self.work_of(turn, finder);
         let step = match turn {
-            Turn::Tree => self.step(left, finder)?,
-            Turn::Times => self.make_piece(left, finder)?,
+            NextTurn::Tree => self.step(left, finder)?,
+            NextTurn::Times => self.make_piece(left, finder)?,
         };
         let gap = self.gap();
         let work = self.work_of(turn, finder).saturating_sub(before);
@@ -610,7 +609,7 @@ impl SharpSearch {
     /// are chosen, all that is left to be found.
     fn passes_over(&self, base: &Fronted) -> bool {
         let bound = self.sharpening.bound();
-        match (&self.chosen, least_of(base.certificate.answer())) {
+        match (&self.chosen, base.certificate.answer().least()) {
             (Some(_), _) => bound >= self.cost().unwrap_or(u64::MAX),
             (None, Some(least)) => bound >= least,
             (None, None) => false,
@@ -633,7 +632,7 @@ impl SharpSearch {
                 return self.end_times(left, finder);
             }
             if self.advance(left, finder)? == Step::Over {
-                self.next = Next::Nothing;
+                self.next = NextTask::Nothing;
                 return self.end_times(left, finder);
             }
         }
@@ -650,12 +649,12 @@ impl SharpSearch {
         watcher: &mut W,
     ) -> Result<(), Memory> {
         match self.next {
-            Next::Root => self.begin_anew(left, finder)?,
-            Next::Base => self.begin_at(left, base, finder)?,
-            Next::Leaves => {}
-            Next::Nothing => return Ok(()),
+            NextTask::Root => self.begin_anew(left, finder)?,
+            NextTask::Base => self.begin_at(left, base, finder)?,
+            NextTask::Leaves => {}
+            NextTask::Nothing => return Ok(()),
         }
-        self.next = Next::Leaves;
+        self.next = NextTask::Leaves;
         self.split(left, finder, watcher)
     }
 }

@@ -1,8 +1,8 @@
 //! What proposes, beside what finds timetables.
 
-use crate::proposing::{Beginning, Proposing};
+use crate::proposing::{ChosenLeaves, Proposing};
 use pesp_cert::Fronted;
-use pesp_finder::{Effort, TimesFinder};
+use pesp_forest::{Effort, TimesFinder};
 use pesp_network::Network;
 use pesp_problem::{Instance, Memory};
 use pesp_reduce::Reduced;
@@ -117,7 +117,7 @@ impl<F: TimesFinder> Sharpener for TreeSharpener<F> {
         pace: Pace,
     ) -> Result<(), Memory> {
         self.turn_to(None);
-        let beginning = Beginning {
+        let beginning = ChosenLeaves {
             leaves,
             share: self.share,
         };

@@ -20,7 +20,7 @@ struct Account {
 
 /// Who takes the next turn.
 #[derive(Clone, Copy, PartialEq, Eq)]
-pub(crate) enum Turn {
+pub(crate) enum NextTurn {
     Tree,
     Times,
 }
@@ -88,36 +88,36 @@ impl Turns {
     }
 
     /// Whose turn it is where times have their least part beside the tree.
-    pub(crate) fn next_by_part(&self) -> Turn {
+    pub(crate) fn next_by_part(&self) -> NextTurn {
         if self.times.is_short(&self.tree) {
-            Turn::Times
+            NextTurn::Times
         } else {
-            Turn::Tree
+            NextTurn::Tree
         }
     }
 
     /// Whose turn it is by worth: that of the one who took more off the gap last by as much work; each has its least part.
-    pub(crate) fn next_by_worth(&self) -> Turn {
+    pub(crate) fn next_by_worth(&self) -> NextTurn {
         let (tree, times) = (&self.tree, &self.times);
         let by_tree = tree.worth(times);
         let by_times = times.worth(tree);
         let is_even = by_tree == by_times && times.all <= tree.all;
         let takes_times = by_tree < by_times || is_even;
         if times.is_short(tree) || (takes_times && !tree.is_short(times)) {
-            Turn::Times
+            NextTurn::Times
         } else {
-            Turn::Tree
+            NextTurn::Tree
         }
     }
 
     /// Notes the work of a turn, and what it left of the gap; None where no timetable is known.
-    pub(crate) fn note(&mut self, turn: Turn, gap: Option<u64>, work: u64) {
+    pub(crate) fn note(&mut self, turn: NextTurn, gap: Option<u64>, work: u64) {
         let gain = self.gain(gap);
         let work = work.max(self.remembered / MOST_TURNS);
         self.gap = gap;
         match turn {
-            Turn::Tree => self.tree.note(gain, work, self.remembered),
-            Turn::Times => self.times.note(gain, work, self.remembered),
+            NextTurn::Tree => self.tree.note(gain, work, self.remembered),
+            NextTurn::Times => self.times.note(gain, work, self.remembered),
         }
     }
 }

@@ -5,17 +5,16 @@ use Rattle.pesp_problem.specs.Timetables.{Pesp, cost}
 use Rattle.pesp_problem.specs.Arcs.{Net, net_of}
 use Rattle.pesp_problem.specs.Nodes.{root}
 use Rattle.pesp_truth.specs.declared.answer.Answer.{Answer}
-use Rattle.pesp_truth.specs.Certificates.{Content, lines_of, least_of, cost_of}
-use Rattle.pesp_lemma.specs.Fronts.{IsValidBehind, Front as FrontOf}
-use Rattle.pesp_machine.specs.States.{IsAtMost}
+use Rattle.pesp_truth.specs.Certificates.{Content, lines_of, least_of, cost_of, IsValid, Front as FrontOf}
+use Rattle.pesp_tree.specs.States.{IsAtMost}
 use Rattle.pesp_cert.specs.Fronted.{Fronted}
-use Rattle.pesp_search_laws.specs.Rooms.{branch_lines, room}
-use Rattle.pesp_search_laws.specs.Turns.{HasBranches}
-use Rattle.pesp_search_laws.proofs.Rooms.{fewer_branches}
-use Rattle.pesp_search_laws.proofs.Branches.{as_lines}
+use Rattle.pesp_branching.specs.Rooms.{branch_lines, room}
+use Rattle.pesp_branching.specs.Turns.{HasBranches}
+use Rattle.pesp_branching.proofs.Rooms.{fewer_branches}
+use Rattle.pesp_branching.proofs.Branches.{as_lines}
 use Rattle.pesp_search.specs.Solving.{IsSolved, CostsNoMore}
-use Rattle.pesp_told.specs.Told.{TellsLeast, IsRetold}
-use Rattle.pesp_sharp_search.specs.Solving.{IsNoWorse, IsPlain, MayStand, StandsWhole, IsSharpSolved, IsSharpResumed}
+use Rattle.pesp_search.specs.Told.{TellsLeast, IsRetold}
+use Rattle.pesp_sharp_search.specs.Solving.{IsNoWorse, IsPlainAnswer, MayStand, StandsWhole, IsSharpSolved, IsSharpResumed}
 
 at_most_itself : (a : Option ℕ) → IsAtMost a a
 at_most_itself None = tt
@@ -26,11 +25,11 @@ pub no_worse_itself : (answer : Answer) → IsNoWorse answer answer
 no_worse_itself answer = (at_most_itself (least_of answer), at_most_itself (cost_of answer))
 
 -- without a front it is valid as a plain one is
-pub plain_valid : (p : Pesp) (c : Fronted) → IsPlain p c → IsValidBehind c.front p c.content
-plain_valid p c plain = subst (λ (front : Option FrontOf). IsValidBehind front p c.content) (sym plain.0) plain.1.valid
+pub plain_valid : (p : Pesp) (c : Fronted) → IsPlainAnswer p c → IsValid c.front p c.content
+plain_valid p c plain = subst (λ (front : Option FrontOf). IsValid front p c.content) (sym plain.0) plain.1.valid
 
 -- a plain answer may stand in its own place
-pub plain_stands : (p : Pesp) (c : Fronted) (steps : ℕ) → IsPlain p c → MayStand p c.content.answer steps c
+pub plain_stands : (p : Pesp) (c : Fronted) (steps : ℕ) → IsPlainAnswer p c → MayStand p c.content.answer steps c
 plain_stands p c steps plain =
     let count = plain.1.branches.lines in
     record {
@@ -48,9 +47,9 @@ within_none p used content solved =
 
 -- the answer of a first look is plain
 pub is_plain : (p : Pesp) (used : ℕ) (content : Content) (c : Fronted) → c ≡ record { front = None; content = content }
-    → IsSolved p 0 used content → IsPlain p c
+    → IsSolved p 0 used content → IsPlainAnswer p c
 is_plain p used content c is solved =
-    subst (IsPlain p) (sym is) (refl, within_none p used content solved)
+    subst (IsPlainAnswer p) (sym is) (refl, within_none p used content solved)
 
 -- it costs no more than the plain answer does
 pub plain_costs : (p : Pesp) (times : List ℕ) (content : Content) (c : Fronted) → c ≡ record { front = None; content = content }
@@ -65,7 +64,7 @@ stands_longer p answer most more c longer stands =
     record { valid = stands.valid; few = omega (arith, few, longer); no_worse = stands.no_worse }
 
 -- a base stands in its own place
-pub base_stands : (p : Pesp) (base : Fronted) (steps : ℕ) → IsValidBehind base.front p base.content → IsSharpResumed p base steps base
+pub base_stands : (p : Pesp) (base : Fronted) (steps : ℕ) → IsValid base.front p base.content → IsSharpResumed p base steps base
 base_stands p base steps valid = record {
   valid = valid;
   few = omega arith;
@@ -73,12 +72,12 @@ base_stands p base steps valid = record {
 }
 
 -- a plain answer has no branch
-pub plain_whole : (p : Pesp) (c : Fronted) (steps : ℕ) → IsPlain p c → StandsWhole p c.content.answer steps c
+pub plain_whole : (p : Pesp) (c : Fronted) (steps : ℕ) → IsPlainAnswer p c → StandsWhole p c.content.answer steps c
 plain_whole p c steps plain =
     (plain_stands p c steps plain, subst (HasBranches (net_of p) c.content) (sym plain.1.branches.lines) plain.1.branches)
 
 -- a certificate that tells what its tree shows is told again as it is
-pub told_itself : (p : Pesp) (c : Fronted) → IsValidBehind c.front p c.content → TellsLeast p c → IsRetold p c c
+pub told_itself : (p : Pesp) (c : Fronted) → IsValid c.front p c.content → TellsLeast p c → IsRetold p c c
 told_itself p c valid told = record {
   valid = valid;
   told = told;
@@ -107,7 +106,7 @@ at_most_then (Some a) None (Some c) h k = absurd k
 at_most_then None (Some b) (Some c) h k = absurd h
 at_most_then (Some a) (Some b) (Some c) h k = omega (arith, h, k)
 
-pub sharp_solved : (p : Pesp) (plain : Fronted) (steps used : ℕ) (found c : Fronted) → IsPlain p plain
+pub sharp_solved : (p : Pesp) (plain : Fronted) (steps used : ℕ) (found c : Fronted) → IsPlainAnswer p plain
     → StandsWhole p plain.content.answer steps found → IsRetold p found c → used ≡ branch_lines (lines_of c.content)
     → IsSharpSolved p steps used c
 sharp_solved p plain steps used found c solved stands again is =

@@ -3,8 +3,8 @@ use Rattle.std.proofs.Common.{◌≡◌, ℕ, ◌+◌, ◌<◌, ◌≤◌, List,
 use Rattle.std.proofs.lemmas.List.{drop_all}
 use Rattle.pesp_truth.specs.declared.tree.TreeLine.{TreeLine}
 use Rattle.pesp_truth.specs.declared.tree.TreeLine.TheVariants.{Slack, Offset, Bound, Nothing, Gap, Propagated}
-use Rattle.pesp_truth.specs.Certificates.{line_of}
-use Rattle.pesp_search_laws.specs.Rooms.{branch_lines}
+use Rattle.pesp_truth.specs.Trees.{line_of}
+use Rattle.pesp_branching.specs.Rooms.{branch_lines}
 
 -- so many branches were counted, at most one a line, once k lines are read
 pub record AreCounted (lines : List TreeLine) (k count : ℕ) : Type 0 where

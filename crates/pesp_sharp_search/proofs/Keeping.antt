@@ -3,14 +3,13 @@ use Rattle.std.proofs.Common.{◌≡◌, ℕ, ◌+◌, ◌<◌, ◌≤◌, arith
 use Rattle.std.specs.Prelude.{◌⊎◌, IfSome}
 use Rattle.std.proofs.lemmas.List.{drop_all, drop_more, length-append, length-map}
 use Rattle.pesp_problem.specs.Timetables.{Pesp}
-use Rattle.pesp_truth.specs.Certificates.{cost_of}
-use Rattle.pesp_lemma.specs.Fronts.{IsValidBehind}
+use Rattle.pesp_truth.specs.Certificates.{cost_of, IsValid}
 use Rattle.pesp_cert.specs.Fronted.{Fronted}
 use Rattle.pesp_worker.specs.declared.jobs.OpenJob.{OpenJob}
 use Rattle.pesp_sharp_search.specs.Solving.{IsSharpResumed}
 use Rattle.pesp_sharp_search.proofs.Choices.{base_stands}
 use Rattle.pesp_sharp_search.specs.Jobs.{SharpJob, told_job, jobs_of}
-use Rattle.pesp_sharp_search.specs.Keeping.{IsAmong, KeepsLeaf, KeepLeaves, KeepsOthers, IsSharpWorked}
+use Rattle.pesp_sharp_search.specs.Keeping.{IsAmong, KeepsLeaf, KeepLeaves, KeepsOtherLeaves, IsSharpWorked}
 
 -- ---- a path, step by step
 
@@ -94,13 +93,13 @@ keep_from jobs until cost before (job ∷ rest) =
       subst P (append_assoc before (job ∷ []) rest) (keep_from jobs until cost (before ++ job ∷ []) rest),
     )
 
-pub base_keeps : (p : Pesp) (base : Fronted) (jobs : List ℕ) (until : Option ℕ) → KeepsOthers p base jobs until base
+pub base_keeps : (p : Pesp) (base : Fronted) (jobs : List ℕ) (until : Option ℕ) → KeepsOtherLeaves p base jobs until base
 base_keeps p base jobs until is = keep_from jobs until (cost_of base.content.answer) [] (jobs_of p base)
 
 -- what was found, or the base
 pub worked_on : (p : Pesp) (base : Fronted) (jobs : List ℕ) (steps : ℕ) (until : Option ℕ) (found : Option Fronted) (c : Fronted)
-    → IsValidBehind base.front p base.content → IfSome found (IsSharpResumed p base steps)
-    → ((c ≡ base) ⊎ (found ≡ Some c)) × KeepsOthers p base jobs until c → IsSharpWorked p base jobs steps until c
+    → IsValid base.front p base.content → IfSome found (IsSharpResumed p base steps)
+    → ((c ≡ base) ⊎ (found ≡ Some c)) × KeepsOtherLeaves p base jobs until c → IsSharpWorked p base jobs steps until c
 worked_on p base jobs steps until found c valid resumed (inl is, others) =
     record { resumed = rw is (base_stands p base steps valid); others = others }
 worked_on p base jobs steps until found c valid resumed (inr is, others) =

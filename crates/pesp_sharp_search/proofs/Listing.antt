@@ -2,10 +2,9 @@
 use Rattle.std.proofs.Common.{◌≡◌, ℕ, ◌+◌, ◌<◌, ◌≤◌, ap, sym, ◌∙◌, refl, List, [], ◌∷◌, ◌++◌, length, get_or, drop, map, append_assoc, append-nil, Option}
 use Rattle.std.proofs.lemmas.List.{drop_all, drop_more, length-append}
 use Rattle.pesp_truth.specs.declared.tree.TreeLine.{TreeLine}
-use Rattle.pesp_truth.specs.Trees.{Line}
-use Rattle.pesp_truth.specs.Certificates.{line_of}
+use Rattle.pesp_truth.specs.Trees.{Line, line_of}
 use Rattle.pesp_judges.proofs.Judged.{next_line}
-use Rattle.pesp_sharp_search.specs.Jobs.{Path, SharpJob, job_at, jobs_in, after}
+use Rattle.pesp_sharp_search.specs.Jobs.{Path, SharpJob, jobs_at_line, jobs_in, paths_after}
 
 -- what is left of lines, of what they show and of the paths that wait; the jobs before
 pub record AreListed (cost : Option ℕ) (lines : List TreeLine) (shown : List (Option ℕ)) (k : ℕ)
@@ -49,15 +48,15 @@ module _ (cost : Option ℕ) (lines : List TreeLine) (shown : List (Option ℕ))
 
   pub one_listed : (line : TreeLine) (value : Option ℕ) (path : Path) (paths waits' : List Path) (jobs' : List SharpJob)
       → k < length lines → line ≡ get_or lines k line → k < length shown → value ≡ get_or shown k value
-      → waits ≡ path ∷ paths → jobs' ≡ jobs ++ job_at cost (length jobs) path value
-      → waits' ≡ after (line_of line) waits → AreListed cost lines shown (k + 1) waits' jobs'
+      → waits ≡ path ∷ paths → jobs' ≡ jobs ++ jobs_at_line cost (length jobs) path value
+      → waits' ≡ paths_after (line_of line) waits → AreListed cost lines shown (k + 1) waits' jobs'
   one_listed line value path paths waits' jobs' in_lines is in_shown shows w more a =
-      let job = job_at cost (length jobs) path value in
+      let job = jobs_at_line cost (length jobs) path value in
       let left = map line_of (drop (k + 1) lines) in
       let rest = drop (k + 1) shown in
       let values : drop k shown ≡ value ∷ rest = drop_more shown k value in_shown ∙ ap (λ (v : Option ℕ). v ∷ rest) (sym shows) in
       let there : jobs_in cost (length jobs) (map line_of (drop k lines)) (drop k shown) waits
-      ≡ job ++ jobs_in cost (length jobs + length job) left rest (after (line_of line) (path ∷ paths)) =
+      ≡ job ++ jobs_in cost (length jobs + length job) left rest (paths_after (line_of line) (path ∷ paths)) =
       ap (λ (ls : List Line). jobs_in cost (length jobs) ls (drop k shown) waits) (next_line lines k line in_lines is)
       ∙ ap (λ (s : List (Option ℕ)). jobs_in cost (length jobs) (line_of line ∷ left) s waits) values
       ∙ ap (λ (ps : List Path). jobs_in cost (length jobs) (line_of line ∷ left) (value ∷ rest) ps) w in
@@ -66,8 +65,8 @@ module _ (cost : Option ℕ) (lines : List TreeLine) (shown : List (Option ℕ))
         all =
             ap (λ (js : List SharpJob). js ++ jobs_in cost (length js) left rest waits') more
             ∙ ap (λ (ps : List Path). (jobs ++ job) ++ jobs_in cost (length (jobs ++ job)) left rest ps)
-            (a ∙ ap (after (line_of line)) w)
-            ∙ ap (λ (n : ℕ). (jobs ++ job) ++ jobs_in cost n left rest (after (line_of line) (path ∷ paths))) count
-            ∙ append_assoc jobs job (jobs_in cost (length jobs + length job) left rest (after (line_of line) (path ∷ paths)))
+            (a ∙ ap (paths_after (line_of line)) w)
+            ∙ ap (λ (n : ℕ). (jobs ++ job) ++ jobs_in cost n left rest (paths_after (line_of line) (path ∷ paths))) count
+            ∙ append_assoc jobs job (jobs_in cost (length jobs + length job) left rest (paths_after (line_of line) (path ∷ paths)))
             ∙ ap (λ (js : List SharpJob). jobs ++ js) (sym there) ∙ h.all;
       }

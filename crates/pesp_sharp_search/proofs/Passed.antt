@@ -6,9 +6,9 @@ use Rattle.std.specs.Str.{bytes_eq}
 use Rattle.std.proofs.lemmas.List.{length-append}
 use Rattle.std.proofs.Math.Seq.{take-append_seam, drop-append_seam}
 use Rattle.std.proofs.lemmas.List.Splits.{join_with_byte-slice_split}
-use Rattle.pesp_text.specs.Words.{pieces}
-use Rattle.pesp_text.proofs.Pieces.{pieces_some}
-use Rattle.pesp_sharp_search.specs.Cutting.{begins_with_front, behind_work, IsCut}
+use Rattle.pesp_stream.specs.Words.{pieces}
+use Rattle.pesp_stream.proofs.SplitPieces.{pieces_some}
+use Rattle.pesp_sharp_search.specs.Cutting.{begins_with_front, behind_work, IsTextCut}
 
 joined_line : (line : List ℕ) (ps : List (List ℕ)) (w : List ℕ) (ws : List (List ℕ)) → ps ≡ w ∷ ws
     → join_with_byte 10 (line ∷ ps) ≡ line ++ 10 ∷ join_with_byte 10 ps
@@ -36,7 +36,7 @@ none_passed text = ([], refl, refl)
 
 module _ (text rest line : List ℕ) (h : IsPassed text rest) where
   -- no line is left
-  pub at_end : (none : List ℕ) → none ≡ [] → pieces 10 rest ≡ line ∷ [] → (work : List ℕ) × IsCut text work none
+  pub at_end : (none : List ℕ) → none ≡ [] → pieces 10 rest ≡ line ∷ [] → (work : List ℕ) × IsTextCut text work none
   at_end none is e = rw is (text, (sym (append-nil text), sym (ap behind_work e) ∙ h.2))
 
   module _ (more : List ℕ) (e : pieces 10 rest ≡ line ∷ pieces 10 more) where
@@ -51,7 +51,7 @@ module _ (text rest line : List ℕ) (h : IsPassed text rest) where
         sym h.2 ∙ ap behind_work e ∙ behind_line line (pieces 10 more) some.0 some.1 some.2
         ∙ ap (λ (x : Bool). if x then pieces 10 more else behind_work (pieces 10 more)) is
 
-    pub ends_here : (bytes_eq line (codes "end") || begins_with_front (pieces 10 more)) ≡ true → (work : List ℕ) × IsCut text work more
+    pub ends_here : (bytes_eq line (codes "end") || begins_with_front (pieces 10 more)) ≡ true → (work : List ℕ) × IsTextCut text work more
     ends_here is = (h.0 ++ (line ++ 10 ∷ []), (longer, sym (step true is)))
 
     pub shorter : length more < length text
@@ -67,7 +67,7 @@ module _ (text rest line : List ℕ) (h : IsPassed text rest) where
     goes_on is = (h.0 ++ (line ++ 10 ∷ []), longer, sym (step false is))
 
 -- a text by the lengths of its parts
-pub parts : (text work rest : List ℕ) → IsCut text work rest
+pub parts : (text work rest : List ℕ) → IsTextCut text work rest
     → (take (length text - length rest) text ≡ work) × (drop (length text - length rest) text ≡ rest)
 parts text work rest cut =
     let long : length text ≡ length work + length rest = ap length cut.0 ∙ length-append work rest in

@@ -3,12 +3,11 @@ use Rattle.std.proofs.Common.{◌≡◌, ℕ, arith, ap, sym, subst, ◌∙◌, 
 use Rattle.std.specs.Prelude.{Option, Some, None}
 use Rattle.pesp_problem.specs.Timetables.{Pesp}
 use Rattle.pesp_truth.specs.declared.answer.Answer.{Answer}
-use Rattle.pesp_truth.specs.Certificates.{least_of, cost_of}
-use Rattle.pesp_lemma.specs.Fronts.{IsValidBehind}
-use Rattle.pesp_machine.specs.States.{IsAtMost}
+use Rattle.pesp_truth.specs.Certificates.{least_of, cost_of, IsValid}
+use Rattle.pesp_tree.specs.States.{IsAtMost}
 use Rattle.pesp_cert.specs.Fronted.{Fronted, IsFrontedText}
 use Rattle.pesp_sharp_search.specs.Solving.{IsNoWorse}
-use Rattle.pesp_sharp_search.specs.Cutting.{IsCut}
+use Rattle.pesp_sharp_search.specs.Cutting.{IsTextCut}
 use Rattle.pesp_sharp_search.specs.declared.sharp_graft.SharpReply.{SharpReply}
 use Rattle.pesp_sharp_search.specs.declared.sharp_graft.SharpReply.TheVariants.{Taken, AddsNothing, Unread, NotValid, TooLarge}
 use Rattle.pesp_sharp_search.specs.Grafts.{TakesSharpWork, TakesSharpWorks, IsSharpGrafted}
@@ -36,12 +35,12 @@ no_worse_then a b c h k = (
 
 -- what stands after a work is valid and no worse
 module _ (p : Pesp) (old new : Fronted) (text : List ℕ) where
-  kept : new ≡ old → IsValidBehind old.front p old.content
-      → IsValidBehind new.front p new.content × IsNoWorse old.content.answer new.content.answer
+  kept : new ≡ old → IsValid old.front p old.content
+      → IsValid new.front p new.content × IsNoWorse old.content.answer new.content.answer
   kept is valid = rw is (valid, itself old.content.answer)
 
-  after_work : (reply : SharpReply) → IsValidBehind old.front p old.content → TakesSharpWork p old text reply new
-      → IsValidBehind new.front p new.content × IsNoWorse old.content.answer new.content.answer
+  after_work : (reply : SharpReply) → IsValid old.front p old.content → TakesSharpWork p old text reply new
+      → IsValid new.front p new.content × IsNoWorse old.content.answer new.content.answer
   after_work Taken valid h = (h.0, h.1)
   after_work AddsNothing valid h = kept h.0 valid
   after_work (Unread refusal) valid h = kept h.0 valid
@@ -50,7 +49,7 @@ module _ (p : Pesp) (old new : Fronted) (text : List ℕ) where
 
 -- ---- a valid work alone
 
-module _ (p : Pesp) (old work : Fronted) (text : List ℕ) (valid : IsValidBehind work.front p work.content) (is : IsFrontedText text work) where
+module _ (p : Pesp) (old work : Fronted) (text : List ℕ) (valid : IsValid work.front p work.content) (is : IsFrontedText text work) where
   pub adds_nothing : IsNoWorse work.content.answer old.content.answer → TakesSharpWork p old text AddsNothing old
   adds_nothing worse = (refl, (work, is, (valid, worse)))
 
@@ -67,18 +66,18 @@ nothing_left (x ∷ xs) e = cc
 
 -- some works were taken, and this is left of the text
 pub record AreTaken (p : Pesp) (base : Fronted) (text rest : List ℕ) (stood : Fronted) (replies : List SharpReply) : Type 0 where
-  pub valid : IsValidBehind stood.front p stood.content
+  pub valid : IsValid stood.front p stood.content
   pub no_worse : IsNoWorse base.content.answer stood.content.answer
   pub takes : (more : List SharpReply) (new : Fronted) → TakesSharpWorks p stood rest more new
       → TakesSharpWorks p base text (replies ++ more) new
 
-pub none_taken : (p : Pesp) (base : Fronted) (text : List ℕ) → IsValidBehind base.front p base.content → AreTaken p base text text base []
+pub none_taken : (p : Pesp) (base : Fronted) (text : List ℕ) → IsValid base.front p base.content → AreTaken p base text text base []
 none_taken p base text valid = record { valid = valid; no_worse = itself base.content.answer; takes = λ more new h. h }
 
 module _ (p : Pesp) (base : Fronted) (text rest : List ℕ) (stood : Fronted) (replies : List SharpReply)
     (h : AreTaken p base text rest stood replies) where
   pub one_taken : (work rest' : List ℕ) (stood' : Fronted) (reply : SharpReply) (replies' : List SharpReply)
-      → IsCut rest work rest' → TakesSharpWork p stood work reply stood' → replies' ≡ replies ++ reply ∷ []
+      → IsTextCut rest work rest' → TakesSharpWork p stood work reply stood' → replies' ≡ replies ++ reply ∷ []
       → AreTaken p base text rest' stood' replies'
   one_taken work rest' stood' reply replies' cut takes more =
       let there = after_work p stood stood' work reply h.valid takes in

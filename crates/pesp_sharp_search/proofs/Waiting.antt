@@ -7,30 +7,30 @@ use Rattle.pesp_problem.specs.declared.cut.Cut.{Cut}
 use Rattle.pesp_problem.specs.declared.cut.Side.{Side}
 use Rattle.pesp_problem.specs.declared.cut.Side.TheVariants.{Low, High}
 use Rattle.pesp_sharp_search.specs.Jobs.{Path}
-use Rattle.pesp_sharp_search.specs.Paths.{beside, behind, passed, waiting, branched}
+use Rattle.pesp_sharp_search.specs.Paths.{paths_beside, paths_behind, paths_passed, paths_waiting, paths_branched}
 
 -- a step more at the end of a path, which stands behind some steps
 behind_more : (before path : Path) (cut : Cut) (side : Side)
-    → behind before (path ++ (cut, side) ∷ []) ≡ beside (before ++ path) cut side ++ behind before path
+    → paths_behind before (path ++ (cut, side) ∷ []) ≡ paths_beside (before ++ path) cut side ++ paths_behind before path
 behind_more before [] cut side =
-    ap (λ (b : Path). beside b cut side) (sym (append-nil before)) ∙ sym (append-nil (beside (before ++ []) cut side))
+    ap (λ (b : Path). paths_beside b cut side) (sym (append-nil before)) ∙ sym (append-nil (paths_beside (before ++ []) cut side))
 behind_more before (step ∷ path) cut side =
     let there = before ++ step ∷ [] in
-    ap (λ (paths : List Path). paths ++ beside before step.0 step.1)
+    ap (λ (paths : List Path). paths ++ paths_beside before step.0 step.1)
     (behind_more there path cut side
-    ∙ ap (λ (b : Path). beside b cut side ++ behind there path) (append_assoc before (step ∷ []) path))
-    ∙ append_assoc (beside (before ++ step ∷ path) cut side) (behind there path) (beside before step.0 step.1)
+    ∙ ap (λ (b : Path). paths_beside b cut side ++ paths_behind there path) (append_assoc before (step ∷ []) path))
+    ∙ append_assoc (paths_beside (before ++ step ∷ path) cut side) (paths_behind there path) (paths_beside before step.0 step.1)
 
 -- into the first part: the second waits
-pub go_low : (path : Path) (cut : Cut) → waiting true (path ++ (cut, Low) ∷ []) ≡ branched path cut
+pub go_low : (path : Path) (cut : Cut) → paths_waiting true (path ++ (cut, Low) ∷ []) ≡ paths_branched path cut
 go_low path cut = ap (λ (paths : List Path). (path ++ (cut, Low) ∷ []) ∷ paths) (behind_more [] path cut Low)
 
 -- out of a second part: the same paths wait
-pub leave_high : (path : Path) (cut : Cut) → passed (path ++ (cut, High) ∷ []) ≡ passed path
+pub leave_high : (path : Path) (cut : Cut) → paths_passed (path ++ (cut, High) ∷ []) ≡ paths_passed path
 leave_high path cut = behind_more [] path cut High
 
 -- from a first part over to the second
-pub turn_low : (path : Path) (cut : Cut) → waiting true (path ++ (cut, High) ∷ []) ≡ passed (path ++ (cut, Low) ∷ [])
+pub turn_low : (path : Path) (cut : Cut) → paths_waiting true (path ++ (cut, High) ∷ []) ≡ paths_passed (path ++ (cut, Low) ∷ [])
 turn_low path cut =
     ap (λ (paths : List Path). (path ++ (cut, High) ∷ []) ∷ paths) (leave_high path cut) ∙ sym (behind_more [] path cut Low)
 
@@ -48,16 +48,16 @@ side_is path top last side e is s = last_of path top last e is ∙ ap (λ (x : S
 
 -- the last step leads to a second part
 pub leave_at : (path : Path) (top : ℕ) (last : Cut × Side) → top + 1 ≡ length path → last ≡ get_or path top last
-    → last.1 ≡ High → passed (take top path) ≡ passed path
-leave_at path top last e is s = sym (leave_high (take top path) last.0) ∙ ap passed (sym (side_is path top last High e is s))
+    → last.1 ≡ High → paths_passed (take top path) ≡ paths_passed path
+leave_at path top last e is s = sym (leave_high (take top path) last.0) ∙ ap paths_passed (sym (side_is path top last High e is s))
 
 -- it leads to a first part
 pub turn_at : (path : Path) (top : ℕ) (last : Cut × Side) → top + 1 ≡ length path → last ≡ get_or path top last
-    → last.1 ≡ Low → waiting true (set path top (last.0, High)) ≡ passed path
+    → last.1 ≡ Low → paths_waiting true (set path top (last.0, High)) ≡ paths_passed path
 turn_at path top last e is s =
     let new : Cut × Side = (last.0, High) in
     let within : top < length path = omega arith in
     let whole : set path top new ≡ take top path ++ new ∷ [] = sym (take-length (set path top new))
     ∙ take-set_at path top _ new (length-set path top new ∙ sym e) within in
-    ap (λ (q : Path). waiting true q) whole ∙ turn_low (take top path) last.0
-    ∙ ap passed (sym (side_is path top last Low e is s))
+    ap (λ (q : Path). paths_waiting true q) whole ∙ turn_low (take top path) last.0
+    ∙ ap paths_passed (sym (side_is path top last Low e is s))

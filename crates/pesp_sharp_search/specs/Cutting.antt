@@ -1,7 +1,7 @@
 -- Texts of works that stand one behind the other.
 use Rattle.std.specs.Prelude.{◌≡◌, ℕ, List, [], ◌∷◌, ◌++◌, codes, Bool, false, ◌||◌, if◌then◌else◌}
 use Rattle.std.specs.Str.{bytes_eq}
-use Rattle.pesp_text.specs.Words.{pieces}
+use Rattle.pesp_stream.specs.Words.{pieces}
 
 -- the first piece is the first line of a front
 abbrev pub begins_with_front : List (List ℕ) → Bool
@@ -17,5 +17,5 @@ behind_work (line ∷ next ∷ more) =
     if bytes_eq line (codes "end") || begins_with_front (next ∷ more) then next ∷ more else behind_work (next ∷ more)
 
 -- a text is that of a work and a rest
-abbrev pub IsCut : List ℕ → List ℕ → List ℕ → Type 0
-IsCut text work rest = (text ≡ work ++ rest) × (pieces 10 rest ≡ behind_work (pieces 10 text))
+abbrev pub IsTextCut : List ℕ → List ℕ → List ℕ → Type 0
+IsTextCut text work rest = (text ≡ work ++ rest) × (pieces 10 rest ≡ behind_work (pieces 10 text))

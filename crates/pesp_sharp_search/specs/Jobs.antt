@@ -26,16 +26,16 @@ is_open None value = true
 is_open (Some cost) value = nat_lt value cost
 
 -- the job of a line that shows so much, under this number; none where it is no open leaf
-abbrev pub job_at : Option ℕ → ℕ → Path → Option ℕ → List SharpJob
-job_at cost number path None = []
-job_at cost number path (Some value) =
+abbrev pub jobs_at_line : Option ℕ → ℕ → Path → Option ℕ → List SharpJob
+jobs_at_line cost number path None = []
+jobs_at_line cost number path (Some value) =
     if is_open cost value then record { number = number; path = path; value = value } ∷ [] else []
 
 -- the paths that wait after a line
-abbrev pub after : Line → List Path → List Path
-after line [] = []
-after (EndLine leaf) (path ∷ paths) = paths
-after (CutLine cut) (path ∷ paths) = (path ++ (cut, Low) ∷ []) ∷ (path ++ (cut, High) ∷ []) ∷ paths
+abbrev pub paths_after : Line → List Path → List Path
+paths_after line [] = []
+paths_after (EndLine leaf) (path ∷ paths) = paths
+paths_after (CutLine cut) (path ∷ paths) = (path ++ (cut, Low) ∷ []) ∷ (path ++ (cut, High) ∷ []) ∷ paths
 
 -- the jobs of lines that show so much, the first line at the first of the paths that wait; numbered on from this number
 abbrev pub jobs_in : Option ℕ → ℕ → List Line → List (Option ℕ) → List Path → List SharpJob
@@ -43,8 +43,8 @@ jobs_in cost number [] shown paths = []
 jobs_in cost number (line ∷ lines) [] paths = []
 jobs_in cost number (line ∷ lines) (value ∷ shown) [] = []
 jobs_in cost number (line ∷ lines) (value ∷ shown) (path ∷ paths) =
-    job_at cost number path value
-    ++ jobs_in cost (number + length (job_at cost number path value)) lines shown (after line (path ∷ paths))
+    jobs_at_line cost number path value
+    ++ jobs_in cost (number + length (jobs_at_line cost number path value)) lines shown (paths_after line (path ∷ paths))
 
 -- the jobs of a certificate
 abbrev pub jobs_of : Pesp → Fronted → List SharpJob

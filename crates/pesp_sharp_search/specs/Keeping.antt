@@ -3,7 +3,7 @@ use Rattle.std.specs.Prelude.{◌≡◌, ◌⊎◌, ℕ, ◌<◌, List, [], ◌�
 use Rattle.pesp_problem.specs.Timetables.{Pesp}
 use Rattle.pesp_truth.specs.Certificates.{cost_of}
 use Rattle.pesp_cert.specs.Fronted.{Fronted}
-use Rattle.pesp_search_laws.specs.Turns.{IsOpenAnswer}
+use Rattle.pesp_branching.specs.Turns.{IsOpenAnswer}
 use Rattle.pesp_sharp_search.specs.Solving.{IsSharpResumed}
 use Rattle.pesp_sharp_search.specs.Jobs.{SharpJob, is_open, jobs_of}
 
@@ -28,11 +28,11 @@ KeepLeaves jobs until cost others (job ∷ more) = KeepsLeaf jobs until cost oth
 
 -- where the answer of what comes of the work is open, each open leaf of the base that wasn't to be worked on, and that costs less
 -- than the times that are known then, is an open leaf at the end of the same path, and shows as much
-abbrev pub KeepsOthers : Pesp → Fronted → List ℕ → Option ℕ → Fronted → Type 0
-KeepsOthers p base jobs until c = IsOpenAnswer c.content.answer
+abbrev pub KeepsOtherLeaves : Pesp → Fronted → List ℕ → Option ℕ → Fronted → Type 0
+KeepsOtherLeaves p base jobs until c = IsOpenAnswer c.content.answer
     → KeepLeaves jobs until (cost_of c.content.answer) (jobs_of p c) (jobs_of p base)
 
 -- what comes of work on leaves of a base: it is no worse, and the other leaves are there still
 pub record IsSharpWorked (p : Pesp) (base : Fronted) (jobs : List ℕ) (steps : ℕ) (until : Option ℕ) (c : Fronted) : Type 0 where
   pub resumed : IsSharpResumed p base steps c
-  pub others : KeepsOthers p base jobs until c
+  pub others : KeepsOtherLeaves p base jobs until c

@@ -4,27 +4,26 @@ use Rattle.pesp_problem.specs.Timetables.{Pesp}
 use Rattle.pesp_problem.specs.Arcs.{net_of}
 use Rattle.pesp_problem.specs.Nodes.{root}
 use Rattle.pesp_truth.specs.declared.answer.Answer.{Answer}
-use Rattle.pesp_truth.specs.Certificates.{Content, lines_of, least_of, cost_of}
-use Rattle.pesp_lemma.specs.Fronts.{IsValidBehind}
+use Rattle.pesp_truth.specs.Certificates.{Content, lines_of, least_of, cost_of, IsValid}
 use Rattle.pesp_cert.specs.Fronted.{Fronted}
-use Rattle.pesp_machine.specs.States.{IsAtMost}
-use Rattle.pesp_search_laws.specs.Rooms.{branch_lines, room}
-use Rattle.pesp_search_laws.specs.Turns.{HasBranches}
+use Rattle.pesp_tree.specs.States.{IsAtMost}
+use Rattle.pesp_branching.specs.Rooms.{branch_lines, room}
+use Rattle.pesp_branching.specs.Turns.{HasBranches}
 use Rattle.pesp_search.specs.Solving.{IsSolved}
-use Rattle.pesp_told.specs.Told.{TellsLeast}
+use Rattle.pesp_search.specs.Told.{TellsLeast}
 
 -- the other answer's bound isn't below this one's, and its cost isn't above; none stands above every number
 abbrev pub IsNoWorse : Answer → Answer → Type 0
 IsNoWorse old new = IsAtMost (least_of old) (least_of new) × IsAtMost (cost_of new) (cost_of old)
 
 -- a certificate without a front that a search without marked walks has within 0 steps
-abbrev pub IsPlain : Pesp → Fronted → Type 0
-IsPlain p c = (c.front ≡ None) × IsSolved p 0 0 c.content
+abbrev pub IsPlainAnswer : Pesp → Fronted → Type 0
+IsPlainAnswer p c = (c.front ≡ None) × IsSolved p 0 0 c.content
 
 -- a certificate that may stand in an answer's place: it is valid with its marked walks, its tree has at most so many
 -- branches, and it is no worse
 pub record MayStand (p : Pesp) (answer : Answer) (steps : ℕ) (c : Fronted) : Type 0 where
-  pub valid : IsValidBehind c.front p c.content
+  pub valid : IsValid c.front p c.content
   pub few : branch_lines (lines_of c.content) ≤ steps
   pub no_worse : IsNoWorse answer c.content.answer
 
@@ -36,7 +35,7 @@ StandsWhole p answer steps c = MayStand p answer steps c × HasBranches (net_of 
 -- fewer than the root has room, and each leaves both parts a value; its bound is the least that its tree shows, and its cost;
 -- and it is no worse than some answer that a search without marked walks has within 0 steps
 pub record IsSharpSolved (p : Pesp) (steps used : ℕ) (c : Fronted) : Type 0 where
-  pub valid : IsValidBehind c.front p c.content
+  pub valid : IsValid c.front p c.content
   pub few : used ≤ steps
   pub branches : HasBranches (net_of p) c.content used
   pub room : used < room (net_of p) c.content.cycles (root (net_of p) c.content.cycles)

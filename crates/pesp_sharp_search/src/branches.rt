@@ -2,8 +2,8 @@
 
 ghost use Rattle.std.specs.Prelude.{◌≡◌, ◌∷◌, [], ◌≤◌, length, map};
 ghost use Rattle.pesp_problem.specs.declared.limits.TheConstants.{MOST_LINES};
-ghost use Rattle.pesp_truth.specs.Certificates.{line_of};
-ghost use Rattle.pesp_search_laws.specs.Rooms.{branch_lines};
+ghost use Rattle.pesp_truth.specs.Trees.{line_of};
+ghost use Rattle.pesp_branching.specs.Rooms.{branch_lines};
 
 use pesp_truth::TreeLine;
 

@@ -1,12 +1,11 @@
 //! The choice between a plain answer and what is proposed in its place.
 
 ghost use Rattle.std.specs.Prelude.{◌≡◌, ◌↔◌, ℕ, List, IsTrue, IfOk, IfSome, None};
-ghost use Rattle.pesp_truth.specs.Certificates.{lines_of};
-ghost use Rattle.pesp_lemma.specs.Fronts.{IsValidBehind};
-ghost use Rattle.pesp_search_laws.specs.Rooms.{branch_lines};
+ghost use Rattle.pesp_truth.specs.Certificates.{lines_of, IsValid};
+ghost use Rattle.pesp_branching.specs.Rooms.{branch_lines};
 ghost use Rattle.pesp_search.specs.Solving.{CostsNoMore};
-ghost use Rattle.pesp_told.specs.Told.{IsRetold};
-ghost use Rattle.pesp_sharp_search.specs.Solving.{IsPlain, MayStand, StandsWhole, IsSharpSolved};
+ghost use Rattle.pesp_search.specs.Told.{IsRetold};
+ghost use Rattle.pesp_sharp_search.specs.Solving.{IsPlainAnswer, MayStand, StandsWhole, IsSharpSolved};
 
 use crate::branches::count_branches;
 use crate::ranks::is_no_worse;
@@ -14,8 +13,8 @@ use pesp_cert::{Certificate, Fronted};
 use pesp_check::check_sharp;
 use pesp_judges::Verdict;
 use pesp_problem::{Instance, Memory};
+use pesp_search::{branches_leave_both, retold};
 use pesp_sharpener::Proposals;
-use pesp_told::{branches_leave_both, retold};
 use pesp_truth::Answer;
 use std::alloc::Global;
 
@@ -35,7 +34,7 @@ pub(crate) fn branches_of(certificate: &Certificate) -> u32
 
 /// Whether the checker accepts a certificate.
 fn is_accepted(alloc: Global, instance: &Instance, fronted: &Fronted) -> Result<bool, Memory>
-    ensures { IfOk result (λ accepted. IsTrue accepted ↔ IsValidBehind fronted.now.front instance.now fronted.now.content) }
+    ensures { IfOk result (λ accepted. IsTrue accepted ↔ IsValid fronted.now.front instance.now fronted.now.content) }
 {
     match check_sharp(alloc, instance, fronted)? {
         Verdict::Accepted => Ok(true),
@@ -144,7 +143,7 @@ fn chosen(
     proposals: Proposals,
     steps: u32,
 ) -> Result<Fronted, Memory>
-    requires { IsPlain instance.now plain }
+    requires { IsPlainAnswer instance.now plain }
     ensures { IfOk result (StandsWhole instance.now plain.content.answer steps) }
 {
     let answer = plain.certificate.answer();
@@ -160,7 +159,7 @@ pub(crate) fn told_in_full(
     instance: &Instance,
     found: Fronted,
 ) -> Result<Fronted, Memory>
-    requires { IsValidBehind found.front instance.now found.content }
+    requires { IsValid found.front instance.now found.content }
     ensures { IfOk result (IsRetold instance.now found) }
 {
     match retold(alloc, instance, &found) {
@@ -188,7 +187,7 @@ pub(crate) fn settled(
     proposals: Proposals,
     steps: u32,
 ) -> Result<SharpSolved, Memory>
-    requires { IsPlain instance.now plain }
+    requires { IsPlainAnswer instance.now plain }
     ensures solved { IfOk result
         (λ sharp. IsSharpSolved instance.now steps sharp.steps_used sharp.fronted) }
     ensures improved { (times : List ℕ) → CostsNoMore instance.now times plain.content

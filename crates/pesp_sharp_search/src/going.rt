@@ -1,11 +1,11 @@
 //! Searches that go on piece by piece.
 
 ghost use Rattle.std.specs.Prelude.{◌≡◌, false, IsTrue, IfOk, IfErr, IfSome};
-ghost use Rattle.pesp_lemma.specs.Fronts.{IsValidBehind};
-ghost use Rattle.pesp_search_laws.specs.Turns.{IsOpenAnswer};
+ghost use Rattle.pesp_truth.specs.Certificates.{IsValid};
+ghost use Rattle.pesp_branching.specs.Turns.{IsOpenAnswer};
 ghost use Rattle.pesp_search.specs.Refusals.{MeetsLimit};
 ghost use Rattle.pesp_search.specs.Solving.{CostsNoMore, IsSearchRefusal};
-ghost use Rattle.pesp_sharp_search.specs.Solving.{IsNoWorse, IsPlain, MayStand};
+ghost use Rattle.pesp_sharp_search.specs.Solving.{IsNoWorse, IsPlainAnswer, MayStand};
 
 use crate::choice::{first_standing, without_front};
 use pesp_cert::Fronted;
@@ -79,8 +79,8 @@ impl Going {
         sharpener: &mut F,
         observer: &mut O,
     ) -> Result<Going, SolveRefusal>
-        ensures valid { IfOk result (λ going. IsValidBehind going.front instance.now going.content) }
-        ensures plain { IfOk result (IsPlain instance.now) }
+        ensures valid { IfOk result (λ going. IsValid going.front instance.now going.content) }
+        ensures plain { IfOk result (IsPlainAnswer instance.now) }
         ensures improved { IfOk result (λ going. CostsNoMore instance.now times.now going.content) }
         ensures refused { IfErr result (IsSearchRefusal instance.now 0) }
         ensures passed { IfErr result (MeetsLimit instance.now 0) }
@@ -162,8 +162,8 @@ impl Going {
         sharpener: &mut F,
         watcher: &mut W,
     ) -> Result<(), Memory>
-        requires { IsValidBehind self.old.front instance.now self.old.content }
-        ensures valid { IsValidBehind self.new.front instance.now self.new.content }
+        requires { IsValid self.old.front instance.now self.old.content }
+        ensures valid { IsValid self.new.front instance.now self.new.content }
         ensures no_worse { IsNoWorse self.old.content.answer self.new.content.answer }
     {
         let found = searched(

@@ -1,12 +1,11 @@
 //! The open leaves of a certificate, as jobs.
 
 ghost use Rattle.std.specs.Prelude.{◌≡◌, ◌++◌, ◌∷◌, [], length, map, OnOk, IfOk, MatchOption, IsTrue, IsSomeAnd, ◌↔◌, true};
-ghost use Rattle.pesp_truth.specs.Certificates.{line_of};
-ghost use Rattle.pesp_lemma.specs.Fronts.{IsValidBehind};
+ghost use Rattle.pesp_truth.specs.Trees.{line_of};
+ghost use Rattle.pesp_truth.specs.Certificates.{IsValid};
 ghost use Rattle.pesp_sharp_search.specs.Jobs as spec;
-ghost use Rattle.pesp_sharp_search.specs.Jobs.{job_at, jobs_in, told_job, count_open, AreSharpJobs};
+ghost use Rattle.pesp_sharp_search.specs.Jobs.{jobs_at_line, jobs_in, told_job, count_open, AreSharpJobs};
 
-use crate::cost_of;
 use crate::paths::pass;
 use pesp_board::Job;
 use pesp_cert::Fronted;
@@ -86,7 +85,7 @@ fn add_if_open(
     cost: Option<u64>,
 ) -> Result<(), Memory>
     ensures { OnOk result (map told_job opens.new.items ≡ map told_job opens.old.items
-        ++ job_at cost (length opens.old.items) path.now shown) }
+        ++ jobs_at_line cost (length opens.old.items) path.now shown) }
 {
     let Some(value) = shown else {
         return Ok(());
@@ -131,10 +130,10 @@ pub fn sharp_jobs(
     instance: &Instance,
     base: &Fronted,
 ) -> Result<Vec<OpenJob>, Memory>
-    requires { IsValidBehind base.now.front instance.now base.now.content }
+    requires { IsValid base.now.front instance.now base.now.content }
     ensures { IfOk result (λ opens. AreSharpJobs instance.now base.now opens.items) }
 {
     let shown = costs_shown(alloc, instance, base)?;
-    let cost = cost_of(base.certificate.answer());
+    let cost = base.certificate.answer().cost();
     jobs_in(alloc, base.certificate.tree(), &shown, cost)
 }

@@ -2,11 +2,11 @@
 
 ghost use Rattle.std.specs.Prelude.{◌≡◌, ◌<◌, ◌||◌, List, ℕ, length, codes};
 ghost use Rattle.std.specs.Str.{bytes_eq};
-ghost use Rattle.pesp_text.specs.Words.{pieces};
+ghost use Rattle.pesp_stream.specs.Words.{pieces};
 ghost use Rattle.pesp_sharp_search.specs.Cutting as spec;
-ghost use Rattle.pesp_sharp_search.specs.Cutting.{IsCut};
+ghost use Rattle.pesp_sharp_search.specs.Cutting.{IsTextCut};
 
-use pesp_text::{is_word, split_at_byte};
+use pesp_stream::{is_word, split_at_byte};
 
 /// Whether a text begins with the first line of a front.
 fn begins_with_front(text: &[u8]) -> bool
@@ -27,7 +27,7 @@ fn ends_with(line: &[u8], rest: &[u8]) -> bool
 /// neither.
 fn behind_work(text: &[u8]) -> &[u8]
     requires { 0 < length text.now }
-    ensures cut { (work : List ℕ) × IsCut text.now work result.now }
+    ensures cut { (work : List ℕ) × IsTextCut text.now work result.now }
     ensures shorter { length result.now < length text.now }
 {
     let mut rest = text;
@@ -46,7 +46,7 @@ fn behind_work(text: &[u8]) -> &[u8]
 /// The first work of a text, up to its first line `end` with that line, or to where the next front begins, and what stands behind it.
 pub(crate) fn cut_work(text: &[u8]) -> (&[u8], &[u8])
     requires { 0 < length text.now }
-    ensures cut { IsCut text.now result.0.now result.1.now }
+    ensures cut { IsTextCut text.now result.0.now result.1.now }
     ensures shorter { length result.1.now < length text.now }
 {
     let rest = behind_work(text);

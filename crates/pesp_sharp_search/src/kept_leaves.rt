@@ -1,12 +1,11 @@
 //! Open leaves that stay as they are where others are worked on.
 
 ghost use Rattle.std.specs.Prelude.{◌≡◌, ◌<◌, ℕ, List, Option, length, map, IfOk, IfSome, IsTrue};
-ghost use Rattle.pesp_lemma.specs.Fronts.{IsValidBehind};
-ghost use Rattle.pesp_search_laws.specs.Turns.{IsOpenAnswer};
+ghost use Rattle.pesp_truth.specs.Certificates.{IsValid};
+ghost use Rattle.pesp_branching.specs.Turns.{IsOpenAnswer};
 ghost use Rattle.pesp_sharp_search.specs.Jobs.{told_job};
-ghost use Rattle.pesp_sharp_search.specs.Keeping.{MayBeWorkedOn, IsAmong, KeepsLeaf, KeepLeaves, KeepsOthers};
+ghost use Rattle.pesp_sharp_search.specs.Keeping.{MayBeWorkedOn, IsAmong, KeepsLeaf, KeepLeaves, KeepsOtherLeaves};
 
-use crate::cost_of;
 use crate::jobs::{is_below, sharp_jobs};
 use pesp_cert::Fronted;
 use pesp_problem::{Cut, Instance, Memory, Side};
@@ -136,10 +135,10 @@ pub(crate) fn keeps_others(
     jobs: &[u64],
     until: Option<u64>,
 ) -> Result<bool, Memory>
-    requires base { IsValidBehind base.now.front instance.now base.now.content }
-    requires found { IsValidBehind found.now.front instance.now found.now.content }
+    requires base { IsValid base.now.front instance.now base.now.content }
+    requires found { IsValid found.now.front instance.now found.now.content }
     ensures { IfOk result
-        (λ keeps. IsTrue keeps → KeepsOthers instance.now base.now jobs.now until found.now) }
+        (λ keeps. IsTrue keeps → KeepsOtherLeaves instance.now base.now jobs.now until found.now) }
 {
     let answer = found.certificate.answer();
     if !is_open_answer(answer) {
@@ -148,7 +147,7 @@ pub(crate) fn keeps_others(
     let leaves = sharp_jobs(alloc, instance, base)?;
     match sharp_jobs(alloc, instance, found) {
         Ok(others) => {
-            let keeps = keep_leaves(&leaves, &others, jobs, until, cost_of(answer));
+            let keeps = keep_leaves(&leaves, &others, jobs, until, answer.cost());
             drop(others);
             drop(leaves);
             Ok(keeps)

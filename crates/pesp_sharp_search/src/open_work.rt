@@ -1,13 +1,13 @@
 //! Work on open leaves of a certificate.
 
 ghost use Rattle.std.specs.Prelude.{◌≡◌, ◌<◌, ◌↔◌, ◌⊎◌, All, IfOk, IfSome, IsTrue, MatchOption, Some};
-ghost use Rattle.pesp_lemma.specs.Fronts.{IsValidBehind};
+ghost use Rattle.pesp_truth.specs.Certificates.{IsValid};
 ghost use Rattle.pesp_sharp_search.specs.Jobs.{AreJobsOf};
-ghost use Rattle.pesp_sharp_search.specs.Keeping.{IsSharpWorked, KeepsOthers};
+ghost use Rattle.pesp_sharp_search.specs.Keeping.{IsSharpWorked, KeepsOtherLeaves};
 
 use crate::jobs::{is_open, open_count};
 use crate::kept_leaves::keeps_others;
-use crate::{Leaves, SharpWatcher, Sharpener, cost_of, resume_leaves};
+use crate::{Leaves, SharpWatcher, Sharpener, resume_leaves};
 use pesp_cert::Fronted;
 use pesp_check::costs_shown;
 use pesp_problem::{Instance, Memory};
@@ -55,9 +55,9 @@ fn worked(
     jobs: &[u64],
     until: Option<u64>,
 ) -> Result<Fronted, Memory>
-    requires base { IsValidBehind base.front instance.now base.content }
-    requires found { IfSome found (λ c. IsValidBehind c.front instance.now c.content) }
-    ensures { IfOk result (λ c. ((c ≡ base) ⊎ (found ≡ Some c)) × KeepsOthers instance.now base jobs.now until c) }
+    requires base { IsValid base.front instance.now base.content }
+    requires found { IfSome found (λ c. IsValid c.front instance.now c.content) }
+    ensures { IfOk result (λ c. ((c ≡ base) ⊎ (found ≡ Some c)) × KeepsOtherLeaves instance.now base jobs.now until c) }
 {
     let Some(found) = found else {
         return Ok(base);
@@ -95,13 +95,13 @@ pub fn work_sharp<F: Sharpener, W: SharpWatcher>(
     sharpener: &mut F,
     watcher: &mut W,
 ) -> Result<Option<Fronted>, Memory>
-    requires { IsValidBehind base.front instance.now base.content }
+    requires { IsValid base.front instance.now base.content }
     ensures { IfOk result (λ found. MatchOption found
         (AreJobsOf instance.now base jobs.now → ⊥)
         (λ c. AreJobsOf instance.now base jobs.now × IsSharpWorked instance.now base jobs.now steps until c)) }
 {
     let shown = costs_shown(alloc, instance, &base)?;
-    let cost = cost_of(base.certificate.answer());
+    let cost = base.certificate.answer().cost();
     if !are_jobs(jobs, open_count(&shown, cost)) {
         return Ok(None);
     }

@@ -1,9 +1,9 @@
 //! Paths through a tree whose lines are passed in preorder.
 
 ghost use Rattle.std.specs.Prelude.{◌≡◌, true, IfOk};
-ghost use Rattle.pesp_truth.specs.Certificates.{line_of};
-ghost use Rattle.pesp_sharp_search.specs.Jobs.{after};
-ghost use Rattle.pesp_sharp_search.specs.Paths.{cut_in, waiting, branched, passed};
+ghost use Rattle.pesp_truth.specs.Trees.{line_of};
+ghost use Rattle.pesp_sharp_search.specs.Jobs.{paths_after};
+ghost use Rattle.pesp_sharp_search.specs.Paths.{cut_in, paths_waiting, paths_branched, paths_passed};
 
 use pesp_problem::{Cut, Memory, Side};
 use pesp_truth::TreeLine;
@@ -24,7 +24,7 @@ fn cut_of(line: &TreeLine) -> Option<Cut>
 
 /// The path to the next part that is still to come; false where there is none.
 fn turn(path: &mut Vec<(Cut, Side)>) -> bool
-    ensures { waiting result path.new.items ≡ passed path.old.items }
+    ensures { paths_waiting result path.new.items ≡ paths_passed path.old.items }
 {
     while !path.is_empty() {
         let top = path.len() - 1;
@@ -42,7 +42,7 @@ fn turn(path: &mut Vec<(Cut, Side)>) -> bool
 
 /// The path to the first part of a branch.
 fn enter(path: &mut Vec<(Cut, Side)>, cut: Cut) -> Result<(), Memory>
-    ensures { IfOk result (λ _. waiting true path.new.items ≡ branched path.old.items cut) }
+    ensures { IfOk result (λ _. paths_waiting true path.new.items ≡ paths_branched path.old.items cut) }
 {
     path.push((cut, Side::Low))?;
     Ok(())
@@ -50,8 +50,8 @@ fn enter(path: &mut Vec<(Cut, Side)>, cut: Cut) -> Result<(), Memory>
 
 /// The path to the next line, from that to a line; false where no line waits.
 pub(crate) fn pass(path: &mut Vec<(Cut, Side)>, line: &TreeLine) -> Result<bool, Memory>
-    ensures { IfOk result (λ more. waiting more path.new.items
-        ≡ after (line_of line.now) (waiting true path.old.items)) }
+    ensures { IfOk result (λ more. paths_waiting more path.new.items
+        ≡ paths_after (line_of line.now) (paths_waiting true path.old.items)) }
 {
     match cut_of(line) {
         Some(cut) => {

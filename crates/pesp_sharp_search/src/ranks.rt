@@ -1,11 +1,9 @@
 //! Whether one answer is no worse than another.
 
 ghost use Rattle.std.specs.Prelude.{◌↔◌, IsTrue};
-ghost use Rattle.pesp_machine.specs.States.{IsAtMost};
+ghost use Rattle.pesp_tree.specs.States.{IsAtMost};
 ghost use Rattle.pesp_sharp_search.specs.Solving.{IsNoWorse};
 
-use pesp_judges::least_of;
-use pesp_told::cost_of;
 use pesp_truth::Answer;
 
 /// Whether a number is at most another; None stands above every number.
@@ -23,5 +21,5 @@ fn is_at_most(a: Option<u64>, b: Option<u64>) -> bool
 pub fn is_no_worse(old: Answer, new: Answer) -> bool
     ensures { IsTrue result ↔ IsNoWorse old new }
 {
-    is_at_most(least_of(old), least_of(new)) && is_at_most(cost_of(new), cost_of(old))
+    is_at_most(old.least(), new.least()) && is_at_most(new.cost(), old.cost())
 }

@@ -1,7 +1,7 @@
 //! Searches that go on from a certificate.
 
 ghost use Rattle.std.specs.Prelude.{IfOk, IfSome};
-ghost use Rattle.pesp_lemma.specs.Fronts.{IsValidBehind};
+ghost use Rattle.pesp_truth.specs.Certificates.{IsValid};
 ghost use Rattle.pesp_sharp_search.specs.Solving.{IsSharpResumed};
 
 use crate::choice::{branches_of, first_standing};
@@ -46,7 +46,7 @@ pub fn resume_sharp<F: Sharpener, W: SharpWatcher>(
     sharpener: &mut F,
     watcher: &mut W,
 ) -> Result<Fronted, Memory>
-    requires { IsValidBehind base.front instance.now base.content }
+    requires { IsValid base.front instance.now base.content }
     ensures { IfOk result (IsSharpResumed instance.now base steps) }
 {
     let answer = base.certificate.answer();
@@ -72,7 +72,7 @@ pub fn resume_leaves<F: Sharpener, W: SharpWatcher>(
     sharpener: &mut F,
     watcher: &mut W,
 ) -> Result<Option<Fronted>, Memory>
-    requires { IsValidBehind base.now.front instance.now base.now.content }
+    requires { IsValid base.now.front instance.now base.now.content }
     ensures { IfOk result (λ found. IfSome found (IsSharpResumed instance.now base.now steps)) }
 {
     let answer = base.certificate.answer();

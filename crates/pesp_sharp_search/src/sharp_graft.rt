@@ -2,7 +2,7 @@
 
 ghost use Rattle.std.specs.Prelude.{◌≡◌, ◌↔◌, ◌≤◌, ◌^◌, ℕ, List, false, length, IfOk, IfSome, IsTrue};
 ghost use Rattle.pesp_problem.specs.Timetables.{Pesp};
-ghost use Rattle.pesp_lemma.specs.Fronts.{IsValidBehind};
+ghost use Rattle.pesp_truth.specs.Certificates.{IsValid};
 ghost use Rattle.pesp_cert.specs.Fronted.{IsFrontedText};
 ghost use Rattle.pesp_sharp_search.specs.Solving.{IsNoWorse};
 ghost use Rattle.pesp_sharp_search.specs.Grafts.{TakesSharpWork, IsSharpGrafted};
@@ -14,7 +14,7 @@ use pesp_cert::{CertRefusal, Fronted, parse_fronted};
 use pesp_check::{check_sharp, costs_shown};
 use pesp_judges::{Refusal, Verdict};
 use pesp_problem::{Instance, Memory};
-use pesp_sharp_merge::{Merged, Shown, merge, merge_leaves};
+use pesp_sharp_merge::{Merged, ShownCertificate, merge, merge_leaves};
 use std::alloc::Global;
 
 /// What became of a work.
@@ -47,16 +47,16 @@ fn joined(
     stood: &Fronted,
     work: &Fronted,
 ) -> Result<Merged, Memory>
-    requires stood { IsValidBehind stood.now.front instance.now stood.now.content }
-    requires work { IsValidBehind work.now.front instance.now work.now.content }
+    requires stood { IsValid stood.now.front instance.now stood.now.content }
+    requires work { IsValid work.now.front instance.now work.now.content }
 {
     let own = costs_shown(alloc, instance, stood)?;
     let other = costs_shown(alloc, instance, work)?;
-    let own = Shown {
+    let own = ShownCertificate {
         fronted: stood,
         costs: &own,
     };
-    let other = Shown {
+    let other = ShownCertificate {
         fronted: work,
         costs: &other,
     };
@@ -71,7 +71,7 @@ fn is_better(
     work: &Fronted,
     joined: &Fronted,
 ) -> Result<bool, Memory>
-    ensures { IfOk result (λ better. IsTrue better ↔ IsValidBehind joined.now.front instance.now joined.now.content
+    ensures { IfOk result (λ better. IsTrue better ↔ IsValid joined.now.front instance.now joined.now.content
         × IsNoWorse stood.now.content.answer joined.now.content.answer
         × IsNoWorse work.now.content.answer joined.now.content.answer) }
 {
@@ -103,10 +103,10 @@ fn take_joined(
     stood: &mut Fronted,
     work: &Fronted,
 ) -> Result<bool, Memory>
-    requires stood { IsValidBehind stood.old.front instance.now stood.old.content }
-    requires work { IsValidBehind work.now.front instance.now work.now.content }
+    requires stood { IsValid stood.old.front instance.now stood.old.content }
+    requires work { IsValid work.now.front instance.now work.now.content }
     ensures joined { IfOk result (λ taken. IsTrue taken
-        → IsValidBehind stood.new.front instance.now stood.new.content
+        → IsValid stood.new.front instance.now stood.new.content
         × IsNoWorse stood.old.content.answer stood.new.content.answer
         × IsNoWorse work.now.content.answer stood.new.content.answer) }
     ensures kept { IfOk result (λ taken. taken ≡ false → stood.new ≡ stood.old) }
@@ -125,7 +125,7 @@ fn take_joined(
 
 /// A certificate with the answer that its tree shows, where the checker accepts it; None where it doesn't.
 fn judged(alloc: Global, instance: &Instance, found: Fronted) -> Result<Option<Fronted>, Memory>
-    ensures { IfOk result (λ told. IfSome told (λ c. IsValidBehind c.front instance.now c.content)) }
+    ensures { IfOk result (λ told. IfSome told (λ c. IsValid c.front instance.now c.content)) }
 {
     match check_sharp(alloc, instance, &found) {
         Ok(Verdict::Accepted) => Ok(Some(told_in_full(alloc, instance, found)?)),
@@ -149,7 +149,7 @@ fn take_lemmas(
     work: &Fronted,
 ) -> Result<bool, Memory>
     ensures joined { IfOk result (λ taken. IsTrue taken
-        → IsValidBehind stood.new.front instance.now stood.new.content
+        → IsValid stood.new.front instance.now stood.new.content
         × IsNoWorse stood.old.content.answer stood.new.content.answer
         × IsNoWorse work.now.content.answer stood.new.content.answer) }
     ensures kept { IfOk result (λ taken. taken ≡ false → stood.new ≡ stood.old) }
@@ -176,10 +176,10 @@ fn take_both(
     stood: &mut Fronted,
     work: &Fronted,
 ) -> Result<bool, Memory>
-    requires stood { IsValidBehind stood.old.front instance.now stood.old.content }
-    requires work { IsValidBehind work.now.front instance.now work.now.content }
+    requires stood { IsValid stood.old.front instance.now stood.old.content }
+    requires work { IsValid work.now.front instance.now work.now.content }
     ensures joined { IfOk result (λ taken. IsTrue taken
-        → IsValidBehind stood.new.front instance.now stood.new.content
+        → IsValid stood.new.front instance.now stood.new.content
         × IsNoWorse stood.old.content.answer stood.new.content.answer
         × IsNoWorse work.now.content.answer stood.new.content.answer) }
     ensures kept { IfOk result (λ taken. taken ≡ false → stood.new ≡ stood.old) }
@@ -192,7 +192,7 @@ fn take_both(
 
 /// Takes a valid work alone in the place of a valid certificate, where it is no worse.
 fn take_alone(stood: &mut Fronted, work: Fronted) -> SharpReply
-    ensures { (p : Pesp) (text : List ℕ) → IsValidBehind work.front p work.content → IsFrontedText text work
+    ensures { (p : Pesp) (text : List ℕ) → IsValid work.front p work.content → IsFrontedText text work
         → TakesSharpWork p stood.old text result stood.new }
 {
     if shows_as_much(stood, &work) {
@@ -215,8 +215,8 @@ fn take_valid(
     work: Fronted,
     text: &[u8],
 ) -> Result<SharpReply, Memory>
-    requires stood { IsValidBehind stood.old.front instance.now stood.old.content }
-    requires work { IsValidBehind work.front instance.now work.content }
+    requires stood { IsValid stood.old.front instance.now stood.old.content }
+    requires work { IsValid work.front instance.now work.content }
     requires text { IsFrontedText text.now work }
     ensures { IfOk result (λ reply. TakesSharpWork instance.now stood.old text.now reply stood.new) }
 {
@@ -241,7 +241,7 @@ fn take_work(
     text: &[u8],
 ) -> Result<SharpReply, Memory>
     requires short { length text.now ≤ 2 ^ 62 }
-    requires stood { IsValidBehind stood.old.front instance.now stood.old.content }
+    requires stood { IsValid stood.old.front instance.now stood.old.content }
     ensures { IfOk result (λ reply. TakesSharpWork instance.now stood.old text.now reply stood.new) }
 {
     let work = match parse_fronted(alloc, text) {
@@ -265,7 +265,7 @@ pub fn graft_sharp(
     works: &[u8],
 ) -> Result<SharpGraft, Memory>
     requires short { length works.now ≤ 2 ^ 62 }
-    requires valid { IsValidBehind base.front instance.now base.content }
+    requires valid { IsValid base.front instance.now base.content }
     ensures { IfOk result (λ graft. IsSharpGrafted instance.now base works.now graft.replies.items graft.fronted) }
 {
     let mut stood = base;

@@ -7,9 +7,8 @@ use crate::lowered::Lowering;
 use crate::scales::{growth_of, scale_over};
 use pesp_cert::Fronted;
 use pesp_inequalities::Pass;
-use pesp_judges::least_of;
 use pesp_problem::{Memory, Pair};
-use pesp_sharpening::{Leaf, Line, Sharpened};
+use pesp_sharpening::{LeafMultipliers, SharpLine, Sharpened};
 use pesp_truth::TreeLine;
 use std::alloc::Global;
 
@@ -20,7 +19,7 @@ const MOST_MULTIPLIER: i64 = 1_000_000_000_000;
 /// offsets of these cycles are above those of what is left, and by what the multipliers grow of leaves that name marked walks
 /// and of leaves that name none.
 #[derive(Clone, Copy)]
-struct Base<'a> {
+struct BaseTree<'a> {
     cycles: &'a [bool],
     walks: &'a [bool],
     shifts: &'a [i64],
@@ -89,7 +88,7 @@ impl LoweredWalks {
     }
 }
 
-impl Base<'_> {
+impl BaseTree<'_> {
     /// Whether a place is marked.
     fn has(marks: &[bool], place: u32) -> bool {
         marks.get(place as usize).copied().unwrap_or(false)
@@ -101,7 +100,12 @@ impl Base<'_> {
     }
 
     /// Takes a pair up; None where its walk isn't one of what is left, or its multiplier grows too great.
-    fn take_pair(&self, leaf: &mut Leaf, pair: &Pair, factor: i64) -> Result<Option<()>, Memory> {
+    fn take_pair(
+        &self,
+        leaf: &mut LeafMultipliers,
+        pair: &Pair,
+        factor: i64,
+    ) -> Result<Option<()>, Memory> {
         let Some(multiplier) = pair.mult.checked_mul(factor) else {
             return Ok(None);
         };
@@ -112,21 +116,21 @@ impl Base<'_> {
         let walk = cycle.wrapping_sub(self.count());
         if cycle < self.count() {
             leaf.pairs.push((cycle, multiplier))?;
-            Ok(Base::has(self.cycles, cycle).then_some(()))
+            Ok(BaseTree::has(self.cycles, cycle).then_some(()))
         } else {
             leaf.walks.push((walk, multiplier))?;
-            Ok(Base::has(self.walks, walk).then_some(()))
+            Ok(BaseTree::has(self.walks, walk).then_some(()))
         }
     }
 
     /// The leaf of pairs; None where one can't be taken up.
-    fn leaf(&self, alloc: Global, pairs: &[Pair]) -> Result<Option<Leaf>, Memory> {
+    fn leaf(&self, alloc: Global, pairs: &[Pair]) -> Result<Option<LeafMultipliers>, Memory> {
         let factor = if name_walk(self.count(), pairs) {
             self.sharp_factor
         } else {
             self.plain_factor
         };
-        let mut leaf = Leaf {
+        let mut leaf = LeafMultipliers {
             pairs: Vec::new(alloc),
             walks: Vec::new(alloc),
         };
@@ -139,29 +143,29 @@ impl Base<'_> {
     }
 
     /// A branch on a cycle's offset; None where the cycle isn't a walk of what is left.
-    fn branch(&self, number: u32, k: i64) -> Option<Line> {
+    fn branch(&self, number: u32, k: i64) -> Option<SharpLine> {
         let cycle = number.wrapping_sub(1);
         let shift = self.shifts.get(cycle as usize).copied()?;
         let most = k.checked_sub(shift)?;
-        Base::has(self.cycles, cycle).then_some(Line::Branch { cycle, most })
+        BaseTree::has(self.cycles, cycle).then_some(SharpLine::Branch { cycle, most })
     }
 
     /// A line; None where it can't be taken up.
-    fn line(&self, alloc: Global, line: &TreeLine) -> Result<Option<Line>, Memory> {
+    fn line(&self, alloc: Global, line: &TreeLine) -> Result<Option<SharpLine>, Memory> {
         match line {
             TreeLine::Offset { cycle, k } => Ok(self.branch(*cycle, *k)),
-            TreeLine::Gap(cycle) => Ok(Some(Line::Gap {
+            TreeLine::Gap(cycle) => Ok(Some(SharpLine::Gap {
                 cycle: cycle.wrapping_sub(1),
             })),
             TreeLine::Bound(pairs) => {
                 match self.leaf(alloc, pairs.as_slice())? {
-                    Some(leaf) => Ok(Some(Line::Bound(leaf))),
+                    Some(leaf) => Ok(Some(SharpLine::Bound(leaf))),
                     None => Ok(None),
                 }
             }
             TreeLine::Nothing(pairs) => {
                 match self.leaf(alloc, pairs.as_slice())? {
-                    Some(leaf) => Ok(Some(Line::Nothing(leaf))),
+                    Some(leaf) => Ok(Some(SharpLine::Nothing(leaf))),
                     None => Ok(None),
                 }
             }
@@ -176,9 +180,9 @@ impl Base<'_> {
         line: &TreeLine,
         place: usize,
         cost: Option<u64>,
-    ) -> Result<Option<Line>, Memory> {
+    ) -> Result<Option<SharpLine>, Memory> {
         match cost {
-            Some(bound) => Ok(Some(Line::Kept {
+            Some(bound) => Ok(Some(SharpLine::Kept {
                 first: u32::try_from(place).unwrap_or(u32::MAX),
                 count: 1,
                 bound,
@@ -188,10 +192,10 @@ impl Base<'_> {
     }
 
     /// Lines that are kept as they are.
-    fn kept(&self, lines: &[TreeLine], place: usize, count: usize) -> Line {
+    fn kept(&self, lines: &[TreeLine], place: usize, count: usize) -> SharpLine {
         let end = place.saturating_add(count);
         let kept = lines.get(place..end).unwrap_or(&[]);
-        Line::Kept {
+        SharpLine::Kept {
             first: u32::try_from(place).unwrap_or(u32::MAX),
             count: u32::try_from(count).unwrap_or(u32::MAX),
             bound: if has_bound(kept) {
@@ -208,7 +212,7 @@ impl Base<'_> {
         alloc: Global,
         tree: &[TreeLine],
         spared: &[Option<u64>],
-    ) -> Result<Vec<Line>, Memory> {
+    ) -> Result<Vec<SharpLine>, Memory> {
         let sizes = sizes_of(alloc, tree)?;
         let mut lines = Vec::new(alloc);
         let mut next = 0usize;
@@ -268,16 +272,16 @@ fn lines_over(
     cycles: &LoweredWalks,
     walks: &LoweredWalks,
     spared: &[Option<u64>],
-) -> Result<Vec<Line>, Memory> {
+) -> Result<Vec<SharpLine>, Memory> {
     let certificate = &base.certificate;
     let shifts = offset_shifts(left, &cycles.passes, certificate.cycles())?;
-    let base_tree = Base {
+    let base_tree = BaseTree {
         cycles: &cycles.are_there,
         walks: &walks.are_there,
         shifts: &shifts,
         sharp_factor: growth_of(base, left.network),
         plain_factor: i64::from(scale_over(base, left.network)),
-        least: least_of(certificate.answer()).unwrap_or(u64::MAX),
+        least: certificate.answer().least().unwrap_or(u64::MAX),
     };
     base_tree.lines(left.alloc, certificate.tree(), spared)
 }

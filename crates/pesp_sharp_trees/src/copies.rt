@@ -1,8 +1,7 @@
 //! Copies of a certificate's parts.
 
 use pesp_cert::ShownLemma;
-use pesp_nets::MarkedWalk;
-use pesp_problem::{Memory, Pairs, Walk};
+use pesp_problem::{MarkedWalk, Memory, Pairs, Walk};
 use pesp_truth::TreeLine;
 use std::alloc::Global;
 

@@ -3,10 +3,9 @@
 use crate::copies::{copied_lemmas, copied_marked};
 use crate::scales::growth_of;
 use pesp_cert::{Fronted, ShownLemma};
-use pesp_nets::MarkedWalk;
 use pesp_network::Network;
-use pesp_problem::{Memory, Pair, Pairs};
-use pesp_sharpening::Line;
+use pesp_problem::{MarkedWalk, Memory, Pair, Pairs};
+use pesp_sharpening::SharpLine;
 use pesp_truth::TreeLine;
 use std::alloc::Global;
 
@@ -14,7 +13,7 @@ use std::alloc::Global;
 /// that kept lines name, how many these are, its lemmas, whether kept lines name one, and by what the multipliers grow of leaves
 /// that name a marked walk or a lemma.
 #[derive(Drop)]
-pub struct Kept<'a> {
+pub struct KeptLines<'a> {
     tree: &'a [TreeLine],
     marked: &'a [MarkedWalk],
     lemmas: &'a [ShownLemma],
@@ -108,18 +107,18 @@ fn ranks_of(alloc: Global, named: &[bool]) -> Result<Vec<Option<u32>>, Memory> {
     Ok(ranks)
 }
 
-impl<'a> Kept<'a> {
+impl<'a> KeptLines<'a> {
     /// The lines of a base of which these lines keep some.
     pub fn of(
         alloc: Global,
         network: &Network,
         base: &'a Fronted,
-        lines: &[Line],
-    ) -> Result<Kept<'a>, Memory> {
+        lines: &[SharpLine],
+    ) -> Result<KeptLines<'a>, Memory> {
         let marked = marked_of(base);
         let lemmas = lemmas_of(base);
         let cycles = u32::try_from(base.certificate.cycles().len()).unwrap_or(u32::MAX);
-        let mut kept = Kept {
+        let mut kept = KeptLines {
             tree: base.certificate.tree(),
             marked,
             lemmas,
@@ -141,9 +140,9 @@ impl<'a> Kept<'a> {
     }
 
     /// The lines of the base that a line keeps.
-    fn run(&self, line: &Line) -> &'a [TreeLine] {
+    fn run(&self, line: &SharpLine) -> &'a [TreeLine] {
         match line {
-            Line::Kept { first, count, .. } => {
+            SharpLine::Kept { first, count, .. } => {
                 let first = *first as usize;
                 let end = first.saturating_add(*count as usize);
                 self.tree.get(first..end).unwrap_or(&[])
@@ -153,7 +152,7 @@ impl<'a> Kept<'a> {
     }
 
     /// Marks the walks and lemmas that the lines name that a line keeps.
-    fn mark_run(&self, line: &Line, named: &mut [bool]) {
+    fn mark_run(&self, line: &SharpLine, named: &mut [bool]) {
         for kept in self.run(line) {
             mark(self.cycles, kept, named);
         }
@@ -239,7 +238,7 @@ impl<'a> Kept<'a> {
         &self,
         alloc: Global,
         tree: &mut Vec<TreeLine>,
-        line: &Line,
+        line: &SharpLine,
         behind: u32,
     ) -> Result<(), Memory> {
         for kept in self.run(line) {

@@ -15,10 +15,10 @@ mod scales;
 
 pub use base::given_of;
 pub use copies::{copied_lemmas, copied_lines, copied_marks, copied_walks};
-pub use kept::Kept;
+pub use kept::KeptLines;
 pub use left::Left;
 pub use lifted::{lifted_of, offset_shifts};
-pub use lines::{Numbers, lines_of, some_wants_scale};
+pub use lines::{CertificateNumbers, lines_of, some_wants_scale};
 pub use marked::{marked_of, scale_walk};
 pub use region_lemmas::{crossing_walks, lemmas_of_regions, region_leaf};
 pub use scales::{scale_for, scale_over};

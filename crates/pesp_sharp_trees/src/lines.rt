@@ -1,14 +1,14 @@
 //! The lines of a tree with a certificate's numbers: cycles from 1, and marked walks on from them.
 
-use crate::kept::Kept;
+use crate::kept::KeptLines;
 use pesp_problem::{Memory, Pair, Pairs};
-use pesp_sharpening::{Leaf, Line};
+use pesp_sharpening::{LeafMultipliers, SharpLine};
 use pesp_truth::TreeLine;
 use std::alloc::Global;
 
 /// How a certificate numbers what a tree names.
 #[derive(Clone, Copy)]
-pub struct Numbers<'a> {
+pub struct CertificateNumbers<'a> {
     /// How many cycles there are.
     pub cycles: u32,
     /// How many marked walks the tree names; the walk that only gives leaves the scale comes behind them.
@@ -18,7 +18,7 @@ pub struct Numbers<'a> {
 }
 
 /// Whether a leaf names a marked walk under a multiplier.
-fn names_walk(leaf: &Leaf) -> bool {
+fn names_walk(leaf: &LeafMultipliers) -> bool {
     for walk in &leaf.walks {
         if walk.1 > 0 {
             return true;
@@ -28,15 +28,15 @@ fn names_walk(leaf: &Leaf) -> bool {
 }
 
 /// Whether a line is a leaf that has to have the scale, though it names no marked walk.
-fn wants_scale(line: &Line) -> bool {
+fn wants_scale(line: &SharpLine) -> bool {
     match line {
-        Line::Bound(leaf) => !leaf.pairs.is_empty() && !names_walk(leaf),
+        SharpLine::Bound(leaf) => !leaf.pairs.is_empty() && !names_walk(leaf),
         _ => false,
     }
 }
 
 /// Whether some leaf has to have the scale, though it names no marked walk.
-pub fn some_wants_scale(lines: &[Line]) -> bool {
+pub fn some_wants_scale(lines: &[SharpLine]) -> bool {
     lines.iter().any(wants_scale)
 }
 
@@ -66,7 +66,11 @@ fn joined(alloc: Global, mut pairs: Vec<Pair>) -> Result<Pairs, Memory> {
 }
 
 /// The pairs of a leaf.
-fn pairs_of(alloc: Global, numbers: Numbers<'_>, leaf: &Leaf) -> Result<Vec<Pair>, Memory> {
+fn pairs_of(
+    alloc: Global,
+    numbers: CertificateNumbers<'_>,
+    leaf: &LeafMultipliers,
+) -> Result<Vec<Pair>, Memory> {
     let mut pairs = Vec::new(alloc);
     add_pairs(&mut pairs, 0, &leaf.pairs)?;
     add_pairs(&mut pairs, numbers.cycles, &leaf.walks)?;
@@ -76,9 +80,9 @@ fn pairs_of(alloc: Global, numbers: Numbers<'_>, leaf: &Leaf) -> Result<Vec<Pair
 /// The pairs of a bound leaf.
 fn bound_pairs(
     alloc: Global,
-    numbers: Numbers<'_>,
-    line: &Line,
-    leaf: &Leaf,
+    numbers: CertificateNumbers<'_>,
+    line: &SharpLine,
+    leaf: &LeafMultipliers,
 ) -> Result<Pairs, Memory> {
     let mut pairs = pairs_of(alloc, numbers, leaf)?;
     if wants_scale(line) {
@@ -88,7 +92,7 @@ fn bound_pairs(
 }
 
 /// The offset of a cycle that is as far as this one of the tree.
-fn shifted(numbers: Numbers<'_>, cycle: u32, most: i64) -> i64 {
+fn shifted(numbers: CertificateNumbers<'_>, cycle: u32, most: i64) -> i64 {
     match numbers.shifts.get(cycle as usize) {
         Some(shift) => most.wrapping_add(*shift),
         None => most,
@@ -96,26 +100,30 @@ fn shifted(numbers: Numbers<'_>, cycle: u32, most: i64) -> i64 {
 }
 
 /// A line of the tree.
-fn line_of(alloc: Global, numbers: Numbers<'_>, line: &Line) -> Result<TreeLine, Memory> {
+fn line_of(
+    alloc: Global,
+    numbers: CertificateNumbers<'_>,
+    line: &SharpLine,
+) -> Result<TreeLine, Memory> {
     match line {
-        Line::Branch { cycle, most } => Ok(TreeLine::Offset {
+        SharpLine::Branch { cycle, most } => Ok(TreeLine::Offset {
             cycle: cycle.saturating_add(1),
             k: shifted(numbers, *cycle, *most),
         }),
-        Line::Bound(leaf) => Ok(TreeLine::Bound(bound_pairs(alloc, numbers, line, leaf)?)),
-        Line::Nothing(leaf) => {
+        SharpLine::Bound(leaf) => Ok(TreeLine::Bound(bound_pairs(alloc, numbers, line, leaf)?)),
+        SharpLine::Nothing(leaf) => {
             let pairs = pairs_of(alloc, numbers, leaf)?;
             Ok(TreeLine::Nothing(joined(alloc, pairs)?))
         }
-        Line::Gap { cycle } => Ok(TreeLine::Gap(cycle.saturating_add(1))),
+        SharpLine::Gap { cycle } => Ok(TreeLine::Gap(cycle.saturating_add(1))),
         // Lines that are kept are told by their base.
-        Line::Kept { .. } => Ok(TreeLine::Propagated),
+        SharpLine::Kept { .. } => Ok(TreeLine::Propagated),
     }
 }
 
-impl Numbers<'_> {
+impl CertificateNumbers<'_> {
     /// How many cycles and marked walks stand in front of those that kept lines name.
-    fn behind(&self, lines: &[Line]) -> u32 {
+    fn behind(&self, lines: &[SharpLine]) -> u32 {
         let scale = if some_wants_scale(lines) { 1 } else { 0 };
         let own = self.walks.saturating_add(scale);
         self.cycles.saturating_add(own)
@@ -125,14 +133,14 @@ impl Numbers<'_> {
 /// Puts a line behind others, or the lines of a base that it keeps.
 fn add_line(
     alloc: Global,
-    numbers: Numbers<'_>,
+    numbers: CertificateNumbers<'_>,
     tree: &mut Vec<TreeLine>,
-    line: &Line,
-    kept: &Option<Kept<'_>>,
+    line: &SharpLine,
+    kept: &Option<KeptLines<'_>>,
     behind: u32,
 ) -> Result<(), Memory> {
     if let Some(kept) = kept
-        && let Line::Kept { .. } = line
+        && let SharpLine::Kept { .. } = line
     {
         return kept.add_lines(alloc, tree, line, behind);
     }
@@ -143,9 +151,9 @@ fn add_line(
 /// The lines of the tree, with those of a base that are kept.
 pub fn lines_of(
     alloc: Global,
-    numbers: Numbers<'_>,
-    lines: &[Line],
-    kept: &Option<Kept<'_>>,
+    numbers: CertificateNumbers<'_>,
+    lines: &[SharpLine],
+    kept: &Option<KeptLines<'_>>,
 ) -> Result<Vec<TreeLine>, Memory> {
     let behind = numbers.behind(lines);
     let mut tree = Vec::new(alloc);

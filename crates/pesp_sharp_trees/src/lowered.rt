@@ -2,9 +2,8 @@
 
 use crate::left::Left;
 use pesp_inequalities::Pass;
-use pesp_nets::{MarkedRow, MarkedWalk};
 use pesp_network::NetRow;
-use pesp_problem::{Arc, Memory, SignedRow, Walk};
+use pesp_problem::{Arc, MarkedRow, MarkedWalk, Memory, SignedRow, Walk};
 use std::alloc::Global;
 
 /// What becomes of a row of the instance: it is the row at this place of those that are left, it is contracted, or it isn't

@@ -2,9 +2,8 @@
 
 use crate::lifted::lifted_of;
 use pesp_inequalities::Pass;
-use pesp_nets::{MarkedRow, MarkedWalk};
 use pesp_network::NetRow;
-use pesp_problem::{Memory, SignedRow, Walk};
+use pesp_problem::{MarkedRow, MarkedWalk, Memory, SignedRow, Walk};
 use pesp_reduce::Reduced;
 use std::alloc::Global;
 

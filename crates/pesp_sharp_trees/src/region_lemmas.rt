@@ -2,13 +2,12 @@
 
 use crate::left::Left;
 use crate::lifted::{lifted_of, offset_shifts};
-use crate::lines::{Numbers, lines_of, some_wants_scale};
+use crate::lines::{CertificateNumbers, lines_of, some_wants_scale};
 use crate::marked::{marked_of, scale_walk};
 use pesp_cert::ShownLemma;
 use pesp_inequalities::Pass;
-use pesp_nets::MarkedWalk;
 use pesp_network::NetRow;
-use pesp_problem::{Memory, Pair, Pairs, Walk};
+use pesp_problem::{MarkedWalk, Memory, Pair, Pairs, Walk};
 use pesp_regions::{ToldRegion, ToldRegions};
 use pesp_truth::TreeLine;
 use std::alloc::{AllocError, Global};
@@ -94,7 +93,7 @@ fn tree_of(
     cycles: &[Walk],
 ) -> Result<Vec<TreeLine>, Memory> {
     let shifts = offset_shifts(left, lists, cycles)?;
-    let numbers = Numbers {
+    let numbers = CertificateNumbers {
         cycles: u32::try_from(cycles.len()).unwrap_or(u32::MAX),
         walks: u32::try_from(region.tree.walks.len()).unwrap_or(u32::MAX),
         shifts: &shifts,

@@ -6,7 +6,7 @@ use crate::proposals::Proposals;
 use crate::share::Share;
 use crate::standing::SharpWatcher;
 use pesp_cert::Fronted;
-use pesp_finder::TimesFinder;
+use pesp_forest::TimesFinder;
 use pesp_problem::{Instance, Memory};
 use pesp_reduce::Reduced;
 use pesp_truth::Answer;

@@ -1,15 +1,17 @@
 //! Trees that are given, and taken up.
 
-use crate::opens::{Open, Start};
+use crate::opens::{LeafStart, Open};
 use crate::shape::Shape;
-use crate::sharpened::{Leaf, Line, Sharpened};
+use crate::sharpened::{LeafMultipliers, SharpLine, Sharpened};
 use crate::sharpening::Sharpening;
 use crate::tree::Knot;
 use pesp_inequalities::Pass;
-use pesp_offset_cuts::Experience;
+use pesp_offset_cuts::PseudoCosts;
 use pesp_problem::Memory;
-use pesp_sharp_nodes::{Branch, Cut, Limit, Node, Range, Relaxation, Side};
-use pesp_warm_nodes::Basis;
+use pesp_sharp_nodes::{
+    BoundSense, Limit, NodeProgram, OffsetBound, OffsetCut, ProgramNode, Range,
+};
+use pesp_warm_nodes::NodeBasis;
 use std::alloc::{AllocError, Global};
 use std::mem::swap;
 
@@ -17,7 +19,7 @@ use std::mem::swap;
 /// nothing, the inequalities that leaves without any get, and what closes leaves.
 #[derive(Clone, Copy)]
 struct Given<'a> {
-    lines: &'a [Line],
+    lines: &'a [SharpLine],
     shape: &'a Shape,
     walks: &'a [Option<u32>],
     common: &'a [u32],
@@ -25,30 +27,30 @@ struct Given<'a> {
 }
 
 /// The bound on an offset of which a cycle has a multiplier, where offsets have this range.
-fn end_of(ranges: &[Range], cycle: u32, multiplier: i64) -> Branch {
+fn end_of(ranges: &[Range], cycle: u32, multiplier: i64) -> OffsetBound {
     let range = ranges.get(cycle as usize).copied();
     let Range { least, most } = range.unwrap_or(Range { least: 0, most: 0 });
     if multiplier < 0 {
-        Branch {
+        OffsetBound {
             cycle,
-            side: Side::AtMost,
+            side: BoundSense::AtMost,
             offset: most,
         }
     } else {
-        Branch {
+        OffsetBound {
             cycle,
-            side: Side::AtLeast,
+            side: BoundSense::AtLeast,
             offset: least,
         }
     }
 }
 
 /// Whether no bound of the other ones on the same offset is stronger.
-fn is_end(ranges: &[Range], branch: Branch) -> bool {
+fn is_end(ranges: &[Range], branch: OffsetBound) -> bool {
     match ranges.get(branch.cycle as usize) {
         Some(range) => match branch.side {
-            Side::AtMost => branch.offset == range.most,
-            Side::AtLeast => branch.offset == range.least,
+            BoundSense::AtMost => branch.offset == range.most,
+            BoundSense::AtLeast => branch.offset == range.least,
         },
         None => false,
     }
@@ -58,10 +60,10 @@ fn is_end(ranges: &[Range], branch: Branch) -> bool {
 fn offsets_of(
     alloc: Global,
     ranges: &[Range],
-    path: &[Branch],
+    path: &[OffsetBound],
     pairs: &[(u32, i64)],
-) -> Result<Vec<(Branch, i64)>, AllocError> {
-    let mut offsets: Vec<(Branch, i64)> = Vec::new(alloc);
+) -> Result<Vec<(OffsetBound, i64)>, AllocError> {
+    let mut offsets: Vec<(OffsetBound, i64)> = Vec::new(alloc);
     for (cycle, multiplier) in pairs {
         let size = multiplier.wrapping_abs();
         offsets.push((end_of(ranges, *cycle, *multiplier), size))?;
@@ -93,7 +95,7 @@ fn walks_of(
 
 impl Sharpening {
     /// The ranges of offsets below bounds on them.
-    fn ranges_below(&self, path: &[Branch]) -> Result<Vec<Range>, AllocError> {
+    fn ranges_below(&self, path: &[OffsetBound]) -> Result<Vec<Range>, AllocError> {
         let mut ranges = self.sharpener.setting.ranges(self.alloc)?;
         for branch in path {
             if let Some(range) = ranges.get_mut(branch.cycle as usize) {
@@ -107,22 +109,27 @@ impl Sharpening {
     fn start_of(
         &mut self,
         given: Given<'_>,
-        relaxation: &Relaxation,
+        relaxation: &NodeProgram,
         ranges: &[Range],
-        path: &[Branch],
+        path: &[OffsetBound],
         count: usize,
-    ) -> Result<Start, AllocError> {
+    ) -> Result<LeafStart, AllocError> {
         if self.shared.is_some() {
-            let basis = Basis::given(self.alloc, ranges, path, count)?;
-            return Ok(Start::Exchanges(basis));
+            let basis = NodeBasis::given(self.alloc, ranges, path, count)?;
+            return Ok(LeafStart::Exchanges(basis));
         }
-        let node = Node::cold(self.alloc, relaxation, given.common)?;
+        let node = ProgramNode::cold(self.alloc, relaxation, given.common)?;
         node.keep_in(&mut self.sharpener.pool);
-        Ok(Start::Steps(node))
+        Ok(LeafStart::Steps(node))
     }
 
     /// A bound leaf that is given; it is open where what it shows doesn't reach the limit.
-    fn take_leaf(&mut self, given: Given<'_>, place: u32, leaf: &Leaf) -> Result<Knot, AllocError> {
+    fn take_leaf(
+        &mut self,
+        given: Given<'_>,
+        place: u32,
+        leaf: &LeafMultipliers,
+    ) -> Result<Knot, AllocError> {
         let path = given.shape.path(self.alloc, given.lines, place)?;
         let ranges = self.ranges_below(&path)?;
         let offsets = offsets_of(self.alloc, &ranges, &path, &leaf.pairs)?;
@@ -140,31 +147,36 @@ impl Sharpening {
         }
         let pairs = Vec::from_slice(self.alloc, &leaf.pairs)?;
         Ok(Knot::Leaf {
-            leaf: Leaf { pairs, walks },
+            leaf: LeafMultipliers { pairs, walks },
             bound,
         })
     }
 
     /// What a line that is given becomes.
-    fn knot_of(&mut self, given: Given<'_>, place: u32, line: &Line) -> Result<Knot, AllocError> {
+    fn knot_of(
+        &mut self,
+        given: Given<'_>,
+        place: u32,
+        line: &SharpLine,
+    ) -> Result<Knot, AllocError> {
         match line {
-            Line::Branch { cycle, most } => Ok(Knot::Split {
-                cut: Cut {
+            SharpLine::Branch { cycle, most } => Ok(Knot::Split {
+                cut: OffsetCut {
                     cycle: *cycle,
                     most: *most,
                 },
                 low: place.saturating_add(1),
                 high: given.shape.second(place),
             }),
-            Line::Bound(leaf) => self.take_leaf(given, place, leaf),
-            Line::Nothing(leaf) => Ok(Knot::Shut {
-                leaf: Leaf {
+            SharpLine::Bound(leaf) => self.take_leaf(given, place, leaf),
+            SharpLine::Nothing(leaf) => Ok(Knot::Shut {
+                leaf: LeafMultipliers {
                     pairs: Vec::from_slice(self.alloc, &leaf.pairs)?,
                     walks: walks_of(self.alloc, given.walks, &leaf.walks)?,
                 },
             }),
-            Line::Gap { cycle } => Ok(Knot::Gap { cycle: *cycle }),
-            Line::Kept {
+            SharpLine::Gap { cycle } => Ok(Knot::Gap { cycle: *cycle }),
+            SharpLine::Kept {
                 first,
                 count,
                 bound,
@@ -263,7 +275,7 @@ impl Sharpening {
     fn begin_with(&mut self, given: &Sharpened) -> Result<(), AllocError> {
         let setting = &mut self.sharpener.setting;
         setting.put_first(self.alloc, &given.cycles)?;
-        self.experience = Experience::new(self.alloc, setting.cycles.len())?;
+        self.experience = PseudoCosts::new(self.alloc, setting.cycles.len())?;
         self.given = given.cycles.len();
         self.is_begun = true;
         Ok(())

@@ -1,7 +1,7 @@
 //! Leaves of programs, by their best multipliers, rounded.
 
-use crate::sharpened::Leaf;
-use pesp_sharp_nodes::{Branch, Origin, Relaxation};
+use crate::sharpened::LeafMultipliers;
+use pesp_sharp_nodes::{NodeProgram, OffsetBound, Origin};
 use std::alloc::{AllocError, Global};
 
 /// Adds a multiplier to the last pair where it is of the same cycle, else puts a pair behind it.
@@ -33,7 +33,10 @@ fn joined(alloc: Global, mut list: Vec<(u32, i64)>) -> Result<Vec<(u32, i64)>, A
 }
 
 /// The leaf of a program: its best multipliers, rounded. Walks have the numbers of the pool.
-pub(crate) fn leaf_of(alloc: Global, relaxation: &Relaxation) -> Result<Leaf, AllocError> {
+pub(crate) fn leaf_of(
+    alloc: Global,
+    relaxation: &NodeProgram,
+) -> Result<LeafMultipliers, AllocError> {
     let mut pairs = Vec::new(alloc);
     let mut walks = Vec::new(alloc);
     for (place, member) in relaxation.members.iter().enumerate() {
@@ -43,13 +46,13 @@ pub(crate) fn leaf_of(alloc: Global, relaxation: &Relaxation) -> Result<Leaf, Al
         }
         match member.origin {
             Origin::Pooled(number) => walks.push((number, multiplier))?,
-            Origin::Offset(Branch { cycle, side, .. }) => {
+            Origin::Offset(OffsetBound { cycle, side, .. }) => {
                 pairs.push((cycle, side.signed(multiplier)))?
             }
         }
     }
     walks.sort_unstable_by_key(|walk| walk.0);
-    Ok(Leaf {
+    Ok(LeafMultipliers {
         pairs: joined(alloc, pairs)?,
         walks,
     })

@@ -15,5 +15,5 @@ mod tree;
 mod trials;
 mod warm;
 
-pub use sharpened::{Leaf, Line, Sharpened};
+pub use sharpened::{LeafMultipliers, SharpLine, Sharpened};
 pub use sharpening::{Sharpening, Step};

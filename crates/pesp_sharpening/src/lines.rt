@@ -1,14 +1,14 @@
 //! The lines by which a tree is told, in preorder, and the numbers of what they name.
 
-use crate::sharpened::{Leaf, Line, Sharpened};
-use crate::tree::{Knot, Tree};
+use crate::sharpened::{LeafMultipliers, SharpLine, Sharpened};
+use crate::tree::{Knot, SharpTree};
 use pesp_inequalities::Pass;
 use pesp_sharp_nodes::{Pool, Setting};
 use std::alloc::{AllocError, Global};
 
 /// The numbers that cycles and walks are told by, for each cycle and each inequality of the pool.
 #[derive(Drop)]
-struct Numbers {
+struct ToldNumbers {
     cycles: Vec<u32>,
     walks: Vec<u32>,
 }
@@ -38,7 +38,7 @@ fn mark_named(marks: &mut [bool], knot: &Knot) {
 fn named_cycles(
     alloc: Global,
     setting: &Setting,
-    tree: &Tree,
+    tree: &SharpTree,
     given: usize,
 ) -> Result<Vec<bool>, AllocError> {
     let mut is_named = Vec::with_capacity(alloc, setting.cycles.len())?;
@@ -93,40 +93,40 @@ fn renumbered(
     Ok(told)
 }
 
-impl Numbers {
+impl ToldNumbers {
     /// The number of a cycle.
     fn cycle(&self, cycle: u32) -> u32 {
         self.cycles.get(cycle as usize).copied().unwrap_or(u32::MAX)
     }
 
     /// A leaf by these numbers.
-    fn leaf(&self, alloc: Global, leaf: &Leaf) -> Result<Leaf, AllocError> {
-        Ok(Leaf {
+    fn leaf(&self, alloc: Global, leaf: &LeafMultipliers) -> Result<LeafMultipliers, AllocError> {
+        Ok(LeafMultipliers {
             pairs: renumbered(alloc, &leaf.pairs, &self.cycles)?,
             walks: renumbered(alloc, &leaf.walks, &self.walks)?,
         })
     }
 
     /// The line of a place.
-    fn line(&self, alloc: Global, setting: &Setting, knot: &Knot) -> Result<Line, AllocError> {
+    fn line(&self, alloc: Global, setting: &Setting, knot: &Knot) -> Result<SharpLine, AllocError> {
         match knot {
-            Knot::Split { cut, .. } => Ok(Line::Branch {
+            Knot::Split { cut, .. } => Ok(SharpLine::Branch {
                 cycle: self.cycle(cut.cycle),
                 most: cut.most,
             }),
-            Knot::Gap { cycle } => Ok(Line::Gap {
+            Knot::Gap { cycle } => Ok(SharpLine::Gap {
                 cycle: self.cycle(*cycle),
             }),
             Knot::Leaf { leaf, bound } if setting.is_shut_by(*bound) => {
-                Ok(Line::Nothing(self.leaf(alloc, leaf)?))
+                Ok(SharpLine::Nothing(self.leaf(alloc, leaf)?))
             }
-            Knot::Leaf { leaf, .. } => Ok(Line::Bound(self.leaf(alloc, leaf)?)),
-            Knot::Shut { leaf } => Ok(Line::Nothing(self.leaf(alloc, leaf)?)),
+            Knot::Leaf { leaf, .. } => Ok(SharpLine::Bound(self.leaf(alloc, leaf)?)),
+            Knot::Shut { leaf } => Ok(SharpLine::Nothing(self.leaf(alloc, leaf)?)),
             Knot::Kept {
                 first,
                 count,
                 bound,
-            } => Ok(Line::Kept {
+            } => Ok(SharpLine::Kept {
                 first: *first,
                 count: *count,
                 bound: *bound,
@@ -139,9 +139,9 @@ impl Numbers {
 fn lines_of(
     alloc: Global,
     setting: &Setting,
-    tree: &Tree,
-    numbers: &Numbers,
-) -> Result<Vec<Line>, AllocError> {
+    tree: &SharpTree,
+    numbers: &ToldNumbers,
+) -> Result<Vec<SharpLine>, AllocError> {
     let mut lines = Vec::with_capacity(alloc, tree.knots.len())?;
     let mut waiting = Vec::new(alloc);
     waiting.push(0u32)?;
@@ -162,7 +162,7 @@ fn lines_of(
 }
 
 /// The least cost that a leaf shows in which there may be a timetable; `u64::MAX` where there is no such leaf.
-pub(crate) fn bound_of(setting: &Setting, tree: &Tree) -> u64 {
+pub(crate) fn bound_of(setting: &Setting, tree: &SharpTree) -> u64 {
     let mut least = u64::MAX;
     for knot in &tree.knots {
         match knot {
@@ -179,12 +179,12 @@ pub(crate) fn told(
     alloc: Global,
     setting: &Setting,
     pool: &Pool,
-    tree: &Tree,
+    tree: &SharpTree,
     given: usize,
     steps: u32,
 ) -> Result<Sharpened, AllocError> {
     let marks = named_cycles(alloc, setting, tree, given)?;
-    let numbers = Numbers {
+    let numbers = ToldNumbers {
         cycles: ranks(alloc, &marks)?,
         walks: pool.numbers(alloc)?,
     };

@@ -1,6 +1,6 @@
 //! Times near a point, which may be a timetable.
 
-use pesp_forest::{Forest, Frame};
+use pesp_forest::{Frame, RowForest};
 use pesp_inequalities::forest_by;
 use pesp_network::NetRow;
 use pesp_sharp_nodes::UNIT;
@@ -25,7 +25,7 @@ fn keys_of(alloc: Global, frame: &Frame, slacks: &[i64]) -> Result<Vec<i64>, All
 /// The time of an event that hangs by a row, from that of the event above it.
 fn time_of(
     frame: &Frame,
-    forest: &Forest,
+    forest: &RowForest,
     slacks: &[i64],
     times: &[u32],
     event: u32,
@@ -48,7 +48,7 @@ fn time_of(
 fn times_along(
     alloc: Global,
     frame: &Frame,
-    forest: &Forest,
+    forest: &RowForest,
     slacks: &[i64],
 ) -> Result<Vec<u32>, AllocError> {
     let mut times = vec![in alloc; 0u32; frame.events()]?;
@@ -69,7 +69,7 @@ pub(crate) fn times_near(
 ) -> Result<Option<Vec<u32>>, AllocError> {
     let keys = keys_of(alloc, frame, slacks)?;
     let numbers = forest_by(alloc, frame, &keys)?;
-    let Some(forest) = Forest::new(alloc, frame, &numbers)? else {
+    let Some(forest) = RowForest::new(alloc, frame, &numbers)? else {
         return Ok(None);
     };
     Ok(Some(times_along(alloc, frame, &forest, slacks)?))

@@ -1,14 +1,14 @@
 //! The shape of a tree whose lines stand in preorder.
 
-use crate::sharpened::Line;
-use pesp_sharp_nodes::{Branch, Cut, Side};
+use crate::sharpened::SharpLine;
+use pesp_sharp_nodes::{BoundSense, OffsetBound, OffsetCut};
 use std::alloc::{AllocError, Global};
 
 /// The branch of which a line is a part, by its place, and which part it is.
 #[derive(Clone, Copy)]
 struct Above {
     branch: u32,
-    side: Side,
+    side: BoundSense,
 }
 
 /// For each line the branch above it, none at the root; and for each branch the place of its second part.
@@ -20,7 +20,7 @@ pub(crate) struct Shape {
 
 /// Both parts of a branch wait for their lines, the first of them for the next one.
 fn wait_for_parts(waiting: &mut Vec<Option<Above>>, branch: u32) -> Result<(), AllocError> {
-    for side in [Side::AtLeast, Side::AtMost] {
+    for side in [BoundSense::AtLeast, BoundSense::AtMost] {
         waiting.push(Some(Above { branch, side }))?;
     }
     Ok(())
@@ -30,7 +30,7 @@ impl Shape {
     /// Notes the second part of a branch.
     fn note(&mut self, above: Option<Above>, place: u32) {
         if let Some(Above { branch, side }) = above
-            && side == Side::AtLeast
+            && side == BoundSense::AtLeast
             && let Some(slot) = self.second.get_mut(branch as usize)
         {
             *slot = place;
@@ -38,7 +38,7 @@ impl Shape {
     }
 
     /// The shape of lines; None where they aren't those of one tree.
-    pub(crate) fn of(alloc: Global, lines: &[Line]) -> Result<Option<Shape>, AllocError> {
+    pub(crate) fn of(alloc: Global, lines: &[SharpLine]) -> Result<Option<Shape>, AllocError> {
         let mut shape = Shape {
             above: Vec::with_capacity(alloc, lines.len())?,
             second: vec![in alloc; 0u32; lines.len()]?,
@@ -52,7 +52,7 @@ impl Shape {
             let number = u32::try_from(place).unwrap_or(u32::MAX);
             shape.note(above, number);
             shape.above.push(above)?;
-            if let Line::Branch { .. } = line {
+            if let SharpLine::Branch { .. } = line {
                 wait_for_parts(&mut waiting, number)?;
             }
         }
@@ -72,17 +72,17 @@ impl Shape {
     pub(crate) fn path(
         &self,
         alloc: Global,
-        lines: &[Line],
+        lines: &[SharpLine],
         place: u32,
-    ) -> Result<Vec<Branch>, AllocError> {
+    ) -> Result<Vec<OffsetBound>, AllocError> {
         let mut path = Vec::new(alloc);
         let mut at = place;
         for _ in 0..lines.len() {
             let Some(Some(above)) = self.above.get(at as usize).copied() else {
                 return Ok(path);
             };
-            if let Some(Line::Branch { cycle, most }) = lines.get(above.branch as usize) {
-                let cut = Cut {
+            if let Some(SharpLine::Branch { cycle, most }) = lines.get(above.branch as usize) {
+                let cut = OffsetCut {
                     cycle: *cycle,
                     most: *most,
                 };

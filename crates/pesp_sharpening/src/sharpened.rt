@@ -5,7 +5,7 @@ use pesp_inequalities::Pass;
 /// Multipliers of a leaf, in units of the scale: of cycles, above 0 for offsets that are at least so great, below 0 for offsets that are
 /// at most so great; and of walks, each 1 at least. Cycles and walks are numbered from 0, and their numbers rise.
 #[derive(Drop)]
-pub struct Leaf {
+pub struct LeafMultipliers {
     pub pairs: Vec<(u32, i64)>,
     pub walks: Vec<(u32, i64)>,
 }
@@ -15,10 +15,10 @@ pub struct Leaf {
 /// cycle has no offset. Lines that were given and aren't looked into are kept: so many from this one on, whose leaves show this
 /// cost at least, `u64::MAX` where they show that no timetable is there.
 #[derive(Drop)]
-pub enum Line {
+pub enum SharpLine {
     Branch { cycle: u32, most: i64 },
-    Bound(Leaf),
-    Nothing(Leaf),
+    Bound(LeafMultipliers),
+    Nothing(LeafMultipliers),
     Gap { cycle: u32 },
     Kept { first: u32, count: u32, bound: u64 },
 }
@@ -31,6 +31,6 @@ pub struct Sharpened {
     pub bound: u64,
     pub cycles: Vec<Vec<Pass>>,
     pub walks: Vec<Vec<Pass>>,
-    pub lines: Vec<Line>,
+    pub lines: Vec<SharpLine>,
     pub steps_used: u32,
 }

@@ -1,7 +1,7 @@
 //! The tree, as it is told.
 
-use crate::sharpened::Leaf;
-use pesp_sharp_nodes::{Cut, Pool, Setting};
+use crate::sharpened::LeafMultipliers;
+use pesp_sharp_nodes::{OffsetCut, Pool, Setting};
 use std::alloc::{AllocError, Global};
 use std::mem::swap;
 
@@ -24,39 +24,39 @@ const MOST_NEW: usize = 400;
 /// that no timetable is there; a cycle without an offset; or lines that were given, with the cost that they show.
 #[derive(Drop)]
 pub(crate) enum Knot {
-    Split { cut: Cut, low: u32, high: u32 },
-    Leaf { leaf: Leaf, bound: u64 },
-    Shut { leaf: Leaf },
+    Split { cut: OffsetCut, low: u32, high: u32 },
+    Leaf { leaf: LeafMultipliers, bound: u64 },
+    Shut { leaf: LeafMultipliers },
     Gap { cycle: u32 },
     Kept { first: u32, count: u32, bound: u64 },
 }
 
 /// The places of a tree, the root first, and how many pairs its leaves have.
 #[derive(Drop)]
-pub(crate) struct Tree {
+pub(crate) struct SharpTree {
     pub(crate) knots: Vec<Knot>,
     pairs: usize,
 }
 
 /// How many pairs a leaf has.
-fn pairs_of(leaf: &Leaf) -> usize {
+fn pairs_of(leaf: &LeafMultipliers) -> usize {
     leaf.pairs.len().saturating_add(leaf.walks.len())
 }
 
-impl Tree {
+impl SharpTree {
     /// A tree that is one leaf without multipliers, or a gap where a cycle has no offset.
-    pub(crate) fn new(alloc: Global, setting: &Setting) -> Result<Tree, AllocError> {
+    pub(crate) fn new(alloc: Global, setting: &Setting) -> Result<SharpTree, AllocError> {
         let knot = match setting.first_gap() {
             Some(cycle) => Knot::Gap { cycle },
             None => Knot::Leaf {
-                leaf: Leaf {
+                leaf: LeafMultipliers {
                     pairs: Vec::new(alloc),
                     walks: Vec::new(alloc),
                 },
                 bound: 0,
             },
         };
-        let mut tree = Tree {
+        let mut tree = SharpTree {
             knots: Vec::new(alloc),
             pairs: 0,
         };
@@ -75,7 +75,7 @@ impl Tree {
     pub(crate) fn add_leaf(
         &mut self,
         pool: &mut Pool,
-        leaf: Leaf,
+        leaf: LeafMultipliers,
         bound: u64,
     ) -> Result<u32, AllocError> {
         self.told_leaf(pool, &leaf);
@@ -83,7 +83,7 @@ impl Tree {
     }
 
     /// Counts a leaf of multipliers of inequalities of the pool.
-    fn told_leaf(&mut self, pool: &mut Pool, leaf: &Leaf) {
+    fn told_leaf(&mut self, pool: &mut Pool, leaf: &LeafMultipliers) {
         for (number, _) in &leaf.walks {
             pool.tell(*number);
         }
@@ -134,7 +134,7 @@ impl Tree {
         alloc: Global,
         pool: &mut Pool,
         place: u32,
-        leaf: Leaf,
+        leaf: LeafMultipliers,
         bound: u64,
     ) -> Result<(), AllocError> {
         self.told_leaf(pool, &leaf);
@@ -147,26 +147,30 @@ impl Tree {
         alloc: Global,
         pool: &mut Pool,
         place: u32,
-        leaf: Leaf,
+        leaf: LeafMultipliers,
     ) -> Result<(), AllocError> {
         self.told_leaf(pool, &leaf);
         self.replace(alloc, pool, place, Knot::Shut { leaf })
     }
 
     /// A leaf more that shows that no timetable is there; its place.
-    pub(crate) fn add_shut(&mut self, pool: &mut Pool, leaf: Leaf) -> Result<u32, AllocError> {
+    pub(crate) fn add_shut(
+        &mut self,
+        pool: &mut Pool,
+        leaf: LeafMultipliers,
+    ) -> Result<u32, AllocError> {
         self.told_leaf(pool, &leaf);
         self.add(Knot::Shut { leaf })
     }
 
     /// A copy of the leaf at a place; one without multipliers where there is none.
-    pub(crate) fn copied(&self, alloc: Global, place: u32) -> Result<Leaf, AllocError> {
+    pub(crate) fn copied(&self, alloc: Global, place: u32) -> Result<LeafMultipliers, AllocError> {
         match self.knots.get(place as usize) {
-            Some(Knot::Leaf { leaf, .. }) => Ok(Leaf {
+            Some(Knot::Leaf { leaf, .. }) => Ok(LeafMultipliers {
                 pairs: Vec::from_slice(alloc, &leaf.pairs)?,
                 walks: Vec::from_slice(alloc, &leaf.walks)?,
             }),
-            _ => Ok(Leaf {
+            _ => Ok(LeafMultipliers {
                 pairs: Vec::new(alloc),
                 walks: Vec::new(alloc),
             }),
@@ -201,7 +205,7 @@ impl Tree {
 }
 
 /// A leaf is no longer there.
-fn untell(alloc: Global, pool: &mut Pool, leaf: &Leaf) -> Result<(), AllocError> {
+fn untell(alloc: Global, pool: &mut Pool, leaf: &LeafMultipliers) -> Result<(), AllocError> {
     for (number, _) in &leaf.walks {
         pool.untell(*number);
         pool.sweep(alloc, *number)?;

@@ -1,8 +1,8 @@
 //! Trials of cuts: a few steps in both parts (strong branching: Applegate et al. 1995).
 
 use pesp_dual::Save;
-use pesp_offset_cuts::{Candidate, Experience};
-use pesp_sharp_nodes::{Cut, Limit, NO_MULTIPLIER, Relaxation, Setting, Side, UNIT};
+use pesp_offset_cuts::{Candidate, PseudoCosts};
+use pesp_sharp_nodes::{BoundSense, Limit, NO_MULTIPLIER, NodeProgram, OffsetCut, Setting, UNIT};
 use std::alloc::{AllocError, Global};
 
 /// How many steps a trial has in each part.
@@ -17,22 +17,22 @@ const LEAST_GAIN: i128 = 1 << 16;
 /// What trials of a leaf share: the multipliers and the point to which its program is brought back, the value of these, in
 /// 1/2^20, and the limit.
 #[derive(Clone, Copy)]
-struct Trial<'a> {
+struct LeafTrial<'a> {
     setting: &'a Setting,
     save: &'a Save,
     value: i128,
     limit: Limit,
 }
 
-impl Trial<'_> {
+impl LeafTrial<'_> {
     /// What a part gains in a few steps, in 1/2^20: by an estimate whose error is of second order, since the value itself
     /// grows too late.
     fn gain(
         &self,
         alloc: Global,
-        relaxation: &mut Relaxation,
-        cut: Cut,
-        side: Side,
+        relaxation: &mut NodeProgram,
+        cut: OffsetCut,
+        side: BoundSense,
     ) -> Result<i128, AllocError> {
         relaxation.add_offset(alloc, self.setting, cut.part(side), NO_MULTIPLIER)?;
         let value = relaxation.program.run(STEPS, self.limit.value);
@@ -47,16 +47,16 @@ impl Trial<'_> {
     fn score(
         &self,
         alloc: Global,
-        relaxation: &mut Relaxation,
-        experience: &mut Experience,
+        relaxation: &mut NodeProgram,
+        experience: &mut PseudoCosts,
         candidate: Candidate,
     ) -> Result<i128, AllocError> {
         let Candidate { cut, fraction, .. } = candidate;
-        let low = self.gain(alloc, relaxation, cut, Side::AtMost)?;
-        experience.note(cut.cycle, Side::AtMost, low, fraction);
-        let high = self.gain(alloc, relaxation, cut, Side::AtLeast)?;
+        let low = self.gain(alloc, relaxation, cut, BoundSense::AtMost)?;
+        experience.note(cut.cycle, BoundSense::AtMost, low, fraction);
+        let high = self.gain(alloc, relaxation, cut, BoundSense::AtLeast)?;
         let rest = UNIT.saturating_sub(fraction);
-        experience.note(cut.cycle, Side::AtLeast, high, rest);
+        experience.note(cut.cycle, BoundSense::AtLeast, high, rest);
         let below = low.saturating_add(LEAST_GAIN);
         Ok(below.saturating_mul(high.saturating_add(LEAST_GAIN)))
     }
@@ -65,10 +65,10 @@ impl Trial<'_> {
     fn best(
         &self,
         alloc: Global,
-        relaxation: &mut Relaxation,
-        experience: &mut Experience,
+        relaxation: &mut NodeProgram,
+        experience: &mut PseudoCosts,
         list: &[Candidate],
-    ) -> Result<Option<Cut>, AllocError> {
+    ) -> Result<Option<OffsetCut>, AllocError> {
         let mut best = None;
         let mut most = -1i128;
         let mut no_better = 0u32;
@@ -93,16 +93,16 @@ impl Trial<'_> {
 pub(crate) fn best_cut(
     alloc: Global,
     setting: &Setting,
-    relaxation: &mut Relaxation,
-    experience: &mut Experience,
+    relaxation: &mut NodeProgram,
+    experience: &mut PseudoCosts,
     list: &[Candidate],
     limit: Limit,
-) -> Result<Option<Cut>, AllocError> {
+) -> Result<Option<OffsetCut>, AllocError> {
     if list.len() < 2 {
         return Ok(list.first().map(|candidate| candidate.cut));
     }
     let save = relaxation.program.save(alloc)?;
-    let trial = Trial {
+    let trial = LeafTrial {
         setting,
         save: &save,
         value: relaxation.program.best_value(),

@@ -1,13 +1,13 @@
 //! Steps by exchanges over the program that all leaves share.
 
-use crate::opens::{Open, Start};
+use crate::opens::{LeafStart, Open};
 use crate::proposals::times_near;
-use crate::sharpened::Leaf;
+use crate::sharpened::LeafMultipliers;
 use crate::sharpening::{Sharpening, Step};
 use crate::tree::Knot;
 use pesp_offset_cuts::{Candidate, open_cut};
-use pesp_sharp_nodes::{Limit, Relaxation, Side, UNIT};
-use pesp_warm_nodes::{Basis, End, Shared, Shown, note};
+use pesp_sharp_nodes::{BoundSense, Limit, NodeProgram, UNIT};
+use pesp_warm_nodes::{NodeBasis, Shared, ShownBound, SolveStatus, note};
 use std::alloc::AllocError;
 use std::mem::swap;
 
@@ -31,13 +31,13 @@ struct Above {
 }
 
 /// A leaf of what is shown.
-fn leaf_of(shown: Shown) -> (Leaf, u64) {
-    let Shown {
+fn leaf_of(shown: ShownBound) -> (LeafMultipliers, u64) {
+    let ShownBound {
         bound,
         pairs,
         walks,
     } = shown;
-    (Leaf { pairs, walks }, bound)
+    (LeafMultipliers { pairs, walks }, bound)
 }
 
 impl Sharpening {
@@ -49,7 +49,7 @@ impl Sharpening {
     /// Goes on from the root by exchanges, where they are for it; whether they are.
     pub(crate) fn share(
         &mut self,
-        relaxation: &Relaxation,
+        relaxation: &NodeProgram,
         limit: Limit,
     ) -> Result<bool, AllocError> {
         if !self.is_leaf() {
@@ -187,7 +187,7 @@ impl Sharpening {
         &mut self,
         place: u32,
         bound: u64,
-        basis: Basis,
+        basis: NodeBasis,
         limit: Limit,
     ) -> Result<(), AllocError> {
         if bound >= limit.cost {
@@ -197,7 +197,7 @@ impl Sharpening {
         self.put_open(Open {
             place,
             bound,
-            start: Start::Exchanges(basis),
+            start: LeafStart::Exchanges(basis),
         })
     }
 
@@ -205,7 +205,7 @@ impl Sharpening {
     pub(crate) fn work_warm(
         &mut self,
         open: &Open,
-        basis: &Basis,
+        basis: &NodeBasis,
         limit: Limit,
     ) -> Result<Step, AllocError> {
         let mut held = None;
@@ -230,7 +230,7 @@ impl Sharpening {
     }
 
     /// Goes to a leaf that isn't the last one's part.
-    fn enter_other(&mut self, shared: &mut Shared, basis: &Basis) -> Result<(), AllocError> {
+    fn enter_other(&mut self, shared: &mut Shared, basis: &NodeBasis) -> Result<(), AllocError> {
         if basis.is_given() {
             shared.enter_here(&self.sharpener.setting, basis)
         } else {
@@ -243,9 +243,9 @@ impl Sharpening {
         &mut self,
         shared: &mut Shared,
         place: u32,
-        basis: &Basis,
+        basis: &NodeBasis,
         limit: Limit,
-    ) -> Result<End, AllocError> {
+    ) -> Result<SolveStatus, AllocError> {
         if self.carried == Some(place) {
             self.carried = None;
             shared.enter_carried(&self.sharpener.setting, basis)?;
@@ -254,7 +254,7 @@ impl Sharpening {
             self.enter_other(shared, basis)?;
         }
         let end = shared.solve_out(&self.sharpener.setting, limit)?;
-        if end == End::Best && self.seeks_at(basis.depth) {
+        if end == SolveStatus::Best && self.seeks_at(basis.depth) {
             return shared.sharpen(&mut self.sharpener, limit);
         }
         Ok(end)
@@ -276,11 +276,11 @@ impl Sharpening {
         &mut self,
         shared: &mut Shared,
         open: &Open,
-        basis: &Basis,
+        basis: &NodeBasis,
         limit: Limit,
     ) -> Result<Step, AllocError> {
         let end = self.enter(shared, open.place, basis, limit)?;
-        if end == End::Ray && self.shut_warm(shared, open.place)? {
+        if end == SolveStatus::Ray && self.shut_warm(shared, open.place)? {
             return Ok(Step::Readied);
         }
         let bound = self.renew_warm(shared, open.place, open.bound, limit)?;
@@ -297,7 +297,7 @@ impl Sharpening {
     fn choose_warm(
         &mut self,
         shared: &mut Shared,
-        basis: &Basis,
+        basis: &NodeBasis,
         limit: Limit,
     ) -> Result<Option<Candidate>, AllocError> {
         let setting = &self.sharpener.setting;
@@ -312,7 +312,7 @@ impl Sharpening {
         shared: &mut Shared,
         place: u32,
         bound: u64,
-        basis: &Basis,
+        basis: &NodeBasis,
         limit: Limit,
     ) -> Result<Step, AllocError> {
         let found = self.choose_warm(shared, basis, limit)?;
@@ -337,7 +337,7 @@ impl Sharpening {
         shared: &mut Shared,
         place: u32,
         bound: u64,
-        basis: &Basis,
+        basis: &NodeBasis,
         limit: Limit,
     ) -> Result<Step, AllocError> {
         shared.solve_anew(&self.sharpener.setting, limit)?;
@@ -355,7 +355,7 @@ impl Sharpening {
         shared: &mut Shared,
         place: u32,
         bound: u64,
-        basis: &Basis,
+        basis: &NodeBasis,
         found: Candidate,
         limit: Limit,
     ) -> Result<Step, AllocError> {
@@ -365,8 +365,8 @@ impl Sharpening {
             bound,
             depth: basis.depth,
         };
-        let low = self.part_warm(shared, above, found, Side::AtMost, limit)?;
-        let high = self.part_warm(shared, above, found, Side::AtLeast, limit)?;
+        let low = self.part_warm(shared, above, found, BoundSense::AtMost, limit)?;
+        let high = self.part_warm(shared, above, found, BoundSense::AtLeast, limit)?;
         let cut = found.cut;
         let pool = &mut self.sharpener.pool;
         let knot = Knot::Split { cut, low, high };
@@ -381,7 +381,7 @@ impl Sharpening {
         shared: &mut Shared,
         above: Above,
         found: Candidate,
-        side: Side,
+        side: BoundSense,
         limit: Limit,
     ) -> Result<u32, AllocError> {
         let before = shared.value();
@@ -410,10 +410,10 @@ impl Sharpening {
         &mut self,
         shared: &mut Shared,
         above: Above,
-        end: End,
+        end: SolveStatus,
         limit: Limit,
     ) -> Result<u32, AllocError> {
-        if end == End::Ray
+        if end == SolveStatus::Ray
             && let Some(shown) = shared.shown_by_ray(&self.sharpener.setting)?
         {
             let (leaf, _) = leaf_of(shown);
@@ -434,7 +434,7 @@ impl Sharpening {
             let open = Open {
                 place,
                 bound,
-                start: Start::Exchanges(basis),
+                start: LeafStart::Exchanges(basis),
             };
             self.put_part(shared, open, above, limit)?;
         }

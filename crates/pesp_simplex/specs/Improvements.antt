@@ -5,7 +5,7 @@ use Rattle.pesp_problem.specs.Forests.{IsSpanningForest}
 use Rattle.pesp_simplex.specs.declared.improved.Improved.{Improved}
 use Rattle.pesp_simplex.specs.declared.improved.Stop.TheVariants.{Local}
 use Rattle.pesp_problem.specs.NetTimetables.{IsNetTimetable, net_cost}
-use Rattle.pesp_shifts.specs.Local.{IsLocal}
+use Rattle.pesp_propagate.specs.Local.{IsLocal}
 
 -- a timetable that is no dearer than the times, with its cost and a spanning forest; where the improvement ended as
 -- local, no shift of a side of a fundamental cut of it is cheaper

@@ -1,11 +1,11 @@
 //! Shifts of cuts that make times cheaper, tried over forests drawn at random.
 
 use crate::moves::shift_side;
-use crate::planting::Planting;
+use crate::planting::PlantedForest;
 use crate::stars::stars_of;
+use pesp_forest::Random;
 use pesp_problem::{Arc, Memory};
-use pesp_search_tools::Random;
-use pesp_shifts::{Cuts, Entry, Numbers, Rooted, list};
+use pesp_propagate::{Cuts, Entry, Numbers, Rooted, list};
 use std::alloc::Global;
 
 /// How many forests in turn may show no cheaper shift before the descent ends.
@@ -16,7 +16,7 @@ const SEED: u64 = 1;
 
 /// A set of events that is shifted: all that hang below an event of the forest, or an event alone.
 #[derive(Clone, Copy)]
-enum Side {
+enum ShiftedSet {
     Below(u32),
     Alone(u32),
 }
@@ -30,28 +30,28 @@ pub(crate) struct Descent {
     cost: i64,
     best: Vec<u32>,
     best_cost: i64,
-    planting: Planting,
+    planting: PlantedForest,
     stars: Cuts,
-    sides: Vec<Side>,
+    sides: Vec<ShiftedSet>,
     numbers: Numbers,
     random: Random,
 }
 
 /// The sides that are tried in each round.
-fn sides_of(alloc: Global, events: u32) -> Result<Vec<Side>, Memory> {
+fn sides_of(alloc: Global, events: u32) -> Result<Vec<ShiftedSet>, Memory> {
     let mut sides = Vec::new(alloc);
     for event in 0..events {
-        sides.push(Side::Below(event))?;
-        sides.push(Side::Alone(event))?;
+        sides.push(ShiftedSet::Below(event))?;
+        sides.push(ShiftedSet::Alone(event))?;
     }
     Ok(sides)
 }
 
 /// The rows that cross between a side and the rest.
-fn entries_at<'a>(cuts: &'a Cuts, stars: &'a Cuts, side: Side) -> Option<&'a [Entry]> {
+fn entries_at<'a>(cuts: &'a Cuts, stars: &'a Cuts, side: ShiftedSet) -> Option<&'a [Entry]> {
     match side {
-        Side::Below(event) => list(cuts, event),
-        Side::Alone(event) => list(stars, event),
+        ShiftedSet::Below(event) => list(cuts, event),
+        ShiftedSet::Alone(event) => list(stars, event),
     }
 }
 
@@ -103,7 +103,7 @@ impl Descent {
             numbers: numbers_for(alloc, period)?,
             sides: sides_of(alloc, events)?,
             stars: stars_of(alloc, events as usize, arcs)?,
-            planting: Planting::new(alloc, events, arcs)?,
+            planting: PlantedForest::new(alloc, events, arcs)?,
             random: Random::new(SEED),
         })
     }
@@ -126,7 +126,7 @@ impl Descent {
     }
 
     /// Tries the shifts of a side, and gives by how much the one that was taken is dearer.
-    fn try_side(&mut self, arcs: &[Arc], side: Side, heat: u64) -> Option<i64> {
+    fn try_side(&mut self, arcs: &[Arc], side: ShiftedSet, heat: u64) -> Option<i64> {
         let entries = entries_at(&self.planting.cuts, &self.stars, side)?;
         if entries.is_empty() {
             return Some(0);

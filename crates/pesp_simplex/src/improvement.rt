@@ -4,7 +4,7 @@ ghost use Rattle.std.specs.Prelude.{◌≡◌, ◌≤◌, ◌↔◌, IsErrOf, If
 ghost use Rattle.pesp_problem.specs.Forests.{IsSpanningForest};
 ghost use Rattle.pesp_network.specs.Networks.{arcs_of_network, net_of_network};
 ghost use Rattle.pesp_problem.specs.NetTimetables.{IsNetTimetable, net_cost};
-ghost use Rattle.pesp_shifts.specs.Local.{IsLocal};
+ghost use Rattle.pesp_propagate.specs.Local.{IsLocal};
 
 use crate::improved::{Improved, SimplexRefusal, Stop};
 use crate::settle::improve_times;

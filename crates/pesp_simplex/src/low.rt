@@ -1,8 +1,8 @@
 //! Lists of the cuts that hang low, for forests whose cuts have too many rows in all.
 
+use pesp_forest::guarded::{count_one, number};
 use pesp_problem::Arc;
-use pesp_search_tools::guarded::{count_one, number};
-use pesp_shifts::{Cuts, Entry, Rooted, put};
+use pesp_propagate::{Cuts, Entry, Rooted, put};
 
 /// Which cuts are listed: those below which no event hangs more rows down than `most`.
 #[derive(Clone, Copy)]

@@ -1,8 +1,8 @@
 //! The choice of an amount by which a side is shifted.
 
+use pesp_forest::Random;
 use pesp_problem::Arc;
-use pesp_search_tools::Random;
-use pesp_shifts::{Entry, Numbers, shift_costs};
+use pesp_propagate::{Entry, Numbers, shift_costs};
 
 /// The weight of an amount that is as cheap as the cheapest.
 const FULL: u64 = 1 << 20;

@@ -3,15 +3,15 @@
 use crate::drawing::Drawing;
 use crate::low::{Low, count_rows, list_low};
 use crate::stars::empty_lists;
+use pesp_forest::Random;
+use pesp_forest::guarded::fill;
 use pesp_problem::{Arc, Memory};
-use pesp_search_tools::Random;
-use pesp_search_tools::guarded::fill;
-use pesp_shifts::{Cuts, Entry, MOST_ENTRIES, lay_out};
+use pesp_propagate::{Cuts, Entry, MOST_ENTRIES, lay_out};
 use std::alloc::Global;
 
 /// The forest in use and the lists of its cuts; for each event how many rows are listed, and how many hang down below it.
 #[derive(Drop)]
-pub(crate) struct Planting {
+pub(crate) struct PlantedForest {
     counts: Vec<u32>,
     heights: Vec<u32>,
     pub(crate) cuts: Cuts,
@@ -29,11 +29,11 @@ fn make_room(entries: &mut Vec<Entry>, room: usize) -> Result<(), Memory> {
     Ok(())
 }
 
-impl Planting {
+impl PlantedForest {
     /// Lists for so many events and these rows; no forest is drawn yet.
-    pub(crate) fn new(alloc: Global, events: u32, arcs: &[Arc]) -> Result<Planting, Memory> {
+    pub(crate) fn new(alloc: Global, events: u32, arcs: &[Arc]) -> Result<PlantedForest, Memory> {
         let count = events as usize;
-        Ok(Planting {
+        Ok(PlantedForest {
             counts: vec![in alloc; 0u32; count]?,
             heights: vec![in alloc; 0u32; count]?,
             cuts: empty_lists(alloc, count, 0)?,

@@ -6,9 +6,9 @@ ghost use Rattle.pesp_problem.specs.Forests.{IsSpanningForest};
 ghost use Rattle.pesp_problem.specs.ArcLimits.{KeepArcLimits};
 ghost use Rattle.pesp_problem.specs.NetTimetables.{IsNetTimetable, net_cost};
 ghost use Rattle.pesp_problem.specs.Roots.{AreRoots, AreTreeRows};
-ghost use Rattle.pesp_shifts.specs.Rooted.{roots_of, IsFor};
-ghost use Rattle.pesp_shifts.specs.Lists.{AreListed};
-ghost use Rattle.pesp_shifts.specs.Local.{IsLocal};
+ghost use Rattle.pesp_propagate.specs.Rooted.{roots_of, IsFor};
+ghost use Rattle.pesp_propagate.specs.Lists.{AreListed};
+ghost use Rattle.pesp_propagate.specs.Local.{IsLocal};
 ghost use Rattle.pesp_simplex.specs.Improvements.{IsImproved};
 
 use crate::descent::{Descent, numbers_for};
@@ -17,7 +17,7 @@ use crate::low::{Low, count_rows};
 use crate::stars::empty_lists;
 use pesp_problem::net_times::{cost_of, is_timetable};
 use pesp_problem::{Arc, Memory};
-use pesp_shifts::{
+use pesp_propagate::{
     Cuts, MOST_ENTRIES, Rooted, are_cuts_best, is_rooted, lay_out, list_rows, slacks_of, tree_rows,
 };
 use std::alloc::Global;

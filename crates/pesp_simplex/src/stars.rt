@@ -1,8 +1,8 @@
 //! The rows at each event, as lists of the cuts of events alone.
 
+use pesp_forest::guarded::count_one;
 use pesp_problem::{Arc, Memory};
-use pesp_search_tools::guarded::count_one;
-use pesp_shifts::{Cuts, Entry, lay_out, put};
+use pesp_propagate::{Cuts, Entry, lay_out, put};
 use std::alloc::Global;
 
 /// How many rows lead from each event to another.

@@ -1,10 +1,10 @@
 //! The components of a forest as it grows, and the rows that cross between each and the rest.
 
 use crate::settings::MOST_CROSSINGS;
-use crate::stars::{Part, stars};
-use pesp_clusters::{Activity, Crossing};
-use pesp_search_tools::guarded::{number, set_number};
-use pesp_search_tools::{Groups, Random};
+use crate::stars::{CrossingList, stars};
+use pesp_clusters::{Activity, SlackCrossing};
+use pesp_forest::guarded::{number, set_number};
+use pesp_forest::{Groups, Random};
 use std::alloc::{AllocError, Global};
 
 /// The components that are shifted: each event, and each component that two others make as a forest grows, where few rows cross.
@@ -13,18 +13,18 @@ use std::alloc::{AllocError, Global};
 /// one, by the last mark and the one behind it.
 #[derive(Drop)]
 pub(crate) struct Components {
-    crossings: Vec<Crossing>,
-    stars: Vec<Part>,
+    crossings: Vec<SlackCrossing>,
+    stars: Vec<CrossingList>,
     in_stars: usize,
-    parts: Vec<Part>,
-    of: Vec<Option<Part>>,
+    parts: Vec<CrossingList>,
+    of: Vec<Option<CrossingList>>,
     groups: Groups,
     marks: Vec<u32>,
     last_mark: u32,
 }
 
 /// A part, unless too many rows cross.
-fn if_short(part: Part) -> Option<Part> {
+fn if_short(part: CrossingList) -> Option<CrossingList> {
     if part.end.wrapping_sub(part.start) as usize <= MOST_CROSSINGS {
         Some(part)
     } else {
@@ -59,7 +59,7 @@ impl Components {
     }
 
     /// Visits a part, where there are rows in it.
-    fn add(&mut self, part: Part) -> Result<(), AllocError> {
+    fn add(&mut self, part: CrossingList) -> Result<(), AllocError> {
         if part.start < part.end {
             self.parts.push(part)?;
         }
@@ -87,7 +87,7 @@ impl Components {
     }
 
     /// Marks the rows of a part, and those that have the mark already by the next one.
-    fn mark(&mut self, part: Part) {
+    fn mark(&mut self, part: CrossingList) {
         let crossings = self
             .crossings
             .get(part.start as usize..part.end as usize)
@@ -100,7 +100,7 @@ impl Components {
     }
 
     /// Marks the rows of two parts: those that both have, which lead from one to the other, by the mark behind that of the rest.
-    fn mark_both(&mut self, one: Part, other: Part) {
+    fn mark_both(&mut self, one: CrossingList, other: CrossingList) {
         self.last_mark = self.last_mark.wrapping_add(2);
         self.mark(one);
         self.mark(other);
@@ -121,7 +121,11 @@ impl Components {
     }
 
     /// Lists the crossings of a component that two parts make.
-    fn list_both(&mut self, one: Part, other: Part) -> Result<Part, AllocError> {
+    fn list_both(
+        &mut self,
+        one: CrossingList,
+        other: CrossingList,
+    ) -> Result<CrossingList, AllocError> {
         self.mark_both(one, other);
         let start = self.count();
         self.list_out(one.start, one.falls)?;
@@ -135,7 +139,7 @@ impl Components {
         let grows = self.count();
         self.list_out(one.grows, one.end)?;
         self.list_out(other.grows, other.end)?;
-        Ok(Part {
+        Ok(CrossingList {
             start,
             falls,
             wide,
@@ -192,12 +196,12 @@ impl Components {
     }
 
     /// The components in the order of their visits.
-    pub(crate) fn parts(&self) -> &[Part] {
+    pub(crate) fn parts(&self) -> &[CrossingList] {
         &self.parts
     }
 
     /// The crossings of a component, narrow rows first.
-    pub(crate) fn of(&self, part: &Part) -> Option<&[Crossing]> {
+    pub(crate) fn of(&self, part: &CrossingList) -> Option<&[SlackCrossing]> {
         self.crossings.get(part.start as usize..part.end as usize)
     }
 }

@@ -2,7 +2,7 @@
 
 use crate::tent::Tent;
 use pesp_annealing::Steps;
-use pesp_clusters::{Activity, Crossing, difference_within};
+use pesp_clusters::{Activity, SlackCrossing, difference_within};
 
 /// Costs as a function of the shift, from the first shift on, whose difference from one shift to the next is doubled so often:
 /// by how much they rise for each unit of time at first, and at the place of each shift by how much they leap there, and by how
@@ -155,7 +155,7 @@ impl Curve {
         steps: &Steps,
         rows: &[Activity],
         tents: &[Tent],
-        crossings: &[Crossing],
+        crossings: &[SlackCrossing],
     ) -> Option<()> {
         self.doublings = steps.doublings();
         self.rise = 0;

@@ -15,5 +15,5 @@ mod soft_annealer;
 mod stars;
 mod tent;
 
-pub use plan::{Cooling, Plan};
+pub use plan::{AnnealPlan, Cooling};
 pub use soft_annealer::SoftAnnealer;

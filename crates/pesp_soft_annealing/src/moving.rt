@@ -3,12 +3,12 @@
 use crate::charts::Charts;
 use crate::curve::Curve;
 use crate::scale::Scale;
-use crate::shifts::{Shifts, in_units};
+use crate::shifts::{CostlyShifts, in_units};
 use crate::tent::Tent;
 use pesp_annealing::{Choices, Heat, Steps};
-use pesp_clusters::{Activity, Crossing, difference_within, sum_within};
+use pesp_clusters::{Activity, SlackCrossing, difference_within, sum_within};
+use pesp_forest::Random;
 use pesp_network::Network;
-use pesp_search_tools::Random;
 use std::alloc::{AllocError, Global};
 
 /// The rows with their slacks and tents, what the slacks cost while none is above its span, and what shifts are chosen with.
@@ -24,7 +24,7 @@ pub(crate) struct Moving {
     random: Random,
     choices: Choices,
     curve: Curve,
-    shifts: Shifts,
+    shifts: CostlyShifts,
 }
 
 impl Moving {
@@ -55,7 +55,7 @@ impl Moving {
             random: Random::new(seed),
             choices: Choices::none(),
             curve: Curve::new(period),
-            shifts: Shifts::new(period),
+            shifts: CostlyShifts::new(period),
         };
         made.count_cost();
         Ok(made)
@@ -90,7 +90,7 @@ impl Moving {
     }
 
     /// Makes a shift of what these rows cross.
-    fn make(&mut self, crossings: &[Crossing], steps: &Steps, place: u32) -> Option<()> {
+    fn make(&mut self, crossings: &[SlackCrossing], steps: &Steps, place: u32) -> Option<()> {
         if place == steps.idle() {
             return Some(());
         }
@@ -103,7 +103,7 @@ impl Moving {
     }
 
     /// Draws one of all shifts in a long period, by weight.
-    fn visit_long(&mut self, crossings: &[Crossing]) -> Option<()> {
+    fn visit_long(&mut self, crossings: &[SlackCrossing]) -> Option<()> {
         let steps = Steps::draw(self.period, &mut self.random);
         let mut costs = [0i64; 64];
         self.curve.find(&steps, &self.rows, &self.tents, crossings)?;
@@ -114,7 +114,7 @@ impl Moving {
     }
 
     /// Shifts slacks of a short period by an amount.
-    fn shift(&mut self, crossings: &[Crossing], amount: u32) -> Option<()> {
+    fn shift(&mut self, crossings: &[SlackCrossing], amount: u32) -> Option<()> {
         for crossing in crossings {
             let slack = self.slacks.get_mut(crossing.row as usize)?;
             *slack = if crossing.grows {
@@ -129,7 +129,7 @@ impl Moving {
     /// Draws one of all shifts, by weight. The rows between two places fall, the others grow.
     pub(crate) fn visit_softly(
         &mut self,
-        crossings: &[Crossing],
+        crossings: &[SlackCrossing],
         falling: (u32, u32),
     ) -> Option<()> {
         if self.period > 64 {
@@ -164,7 +164,11 @@ impl Moving {
     }
 
     /// Draws one of the shifts that keep all spans, by weight, or takes the cheapest.
-    pub(crate) fn visit_hard(&mut self, crossings: &[Crossing], heat: Option<Heat>) -> Option<()> {
+    pub(crate) fn visit_hard(
+        &mut self,
+        crossings: &[SlackCrossing],
+        heat: Option<Heat>,
+    ) -> Option<()> {
         let steps = Steps::draw(self.period, &mut self.random);
         self.choices.find(&steps, &self.rows, crossings)?;
         if !self.choices.are_several(&steps) {

@@ -14,7 +14,7 @@ pub struct Cooling {
 /// A soft anneal and a hard one. A unit of time above a span costs the last price, in 32nds of the mean cost of a row, at the
 /// end of the soft one, and at its beginning the last price halved so many times.
 #[derive(Clone, Copy)]
-pub struct Plan {
+pub struct AnnealPlan {
     pub soft: Cooling,
     pub hard: Cooling,
     pub last_price: u64,
@@ -35,7 +35,7 @@ impl Cooling {
     }
 }
 
-impl Plan {
+impl AnnealPlan {
     /// The price in a sweep.
     pub(crate) fn price(&self, mean: u64, sweep: u32) -> u64 {
         let all = self.doublings.saturating_mul(16);

@@ -3,9 +3,9 @@
 use crate::charts::Charts;
 use crate::scale::{MOST, Scale};
 use pesp_annealing::Heat;
-use pesp_clusters::{Crossing, sum_within};
-use pesp_search_tools::Random;
-use pesp_search_tools::guarded::number;
+use pesp_clusters::{SlackCrossing, sum_within};
+use pesp_forest::Random;
+use pesp_forest::guarded::number;
 use std::simd::prelude::*;
 
 /// From how many units on a cost has no weight.
@@ -17,7 +17,7 @@ const WEIGHTS: usize = 384;
 /// Which shifts of a period cost anything: 0 for each, and the most beyond them; by how much a slack is further on whose costs,
 /// read backwards, are those of a row that falls; and the weights by sixteenths of an octave.
 #[derive(Drop)]
-pub(crate) struct Shifts {
+pub(crate) struct CostlyShifts {
     period: u32,
     back: u32,
     beyond: [u16; 64],
@@ -69,14 +69,14 @@ fn write_weights(weights: &mut [u32]) {
     }
 }
 
-impl Shifts {
+impl CostlyShifts {
     /// The shifts of a period.
-    pub(crate) fn new(period: u32) -> Shifts {
+    pub(crate) fn new(period: u32) -> CostlyShifts {
         let mut weights = [0; WEIGHTS];
         write_weights(&mut weights);
         let mut beyond = [0; 64];
         close_behind(&mut beyond, period);
-        Shifts {
+        CostlyShifts {
             period,
             back: back_of(period),
             beyond,
@@ -89,7 +89,7 @@ impl Shifts {
         &self,
         charts: &Charts,
         slacks: &[u32],
-        crossings: &[Crossing],
+        crossings: &[SlackCrossing],
         further: u32,
         sums: u16x64,
     ) -> u16x64 {
@@ -109,7 +109,7 @@ impl Shifts {
         &self,
         charts: &Charts,
         slacks: &[u32],
-        crossings: &[Crossing],
+        crossings: &[SlackCrossing],
         falling: (u32, u32),
     ) -> u16x64 {
         let (from, to) = (falling.0 as usize, falling.1 as usize);

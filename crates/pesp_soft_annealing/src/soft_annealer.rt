@@ -2,13 +2,13 @@
 
 use crate::components::Components;
 use crate::moving::Moving;
-use crate::plan::{Cooling, Plan};
+use crate::plan::{AnnealPlan, Cooling};
 use crate::settings::{
     LAST_FORESTS, LAST_SWEEPS, MENDING_SWEEPS, MENDING_SWEEPS_OF_A_FOREST, SWEEPS_OF_A_FOREST,
     SWEEPS_OF_A_HEAT,
 };
 use pesp_annealing::Heat;
-use pesp_clusters::{Bent, Forest};
+use pesp_clusters::{Bent, DrawnForest};
 use pesp_network::Network;
 use pesp_problem::Memory;
 use std::alloc::{AllocError, Global};
@@ -19,7 +19,7 @@ pub struct SoftAnnealer {
     slacks: Vec<u32>,
     cost: u64,
     moving: Moving,
-    forest: Forest,
+    forest: DrawnForest,
     components: Components,
 }
 
@@ -46,7 +46,7 @@ impl SoftAnnealer {
             slacks: Vec::from_slice(alloc, slacks)?,
             cost: moving.cost(),
             components: Components::new(alloc, moving.rows(), network.period(), events)?,
-            forest: Forest::new(alloc, events, rows)?,
+            forest: DrawnForest::new(alloc, events, rows)?,
             moving,
         }))
     }
@@ -101,7 +101,13 @@ impl SoftAnnealer {
     }
 
     /// The sweeps of an anneal in which rows may be broken from one number to another. `mean` is the mean cost of a row.
-    pub fn soften(&mut self, mean: u64, plan: &Plan, from: u32, to: u32) -> Result<(), Memory> {
+    pub fn soften(
+        &mut self,
+        mean: u64,
+        plan: &AnnealPlan,
+        from: u32,
+        to: u32,
+    ) -> Result<(), Memory> {
         for sweep in from..to {
             if sweep % SWEEPS_OF_A_FOREST == 0 {
                 self.draw_forest()?;

@@ -1,13 +1,13 @@
 //! The rows at each event.
 
-use pesp_clusters::{Activity, Crossing};
-use pesp_search_tools::guarded::{count_one, number, set_number};
+use pesp_clusters::{Activity, SlackCrossing};
+use pesp_forest::guarded::{count_one, number, set_number};
 use std::alloc::{AllocError, Global};
 
 /// Crossings in a list: the narrow rows, which some slack would break, that grow from `start` and that fall from `falls`; and the
 /// wide ones that fall from `wide` and that grow from `grows`, up to `end`.
 #[derive(Clone, Copy)]
-pub(crate) struct Part {
+pub(crate) struct CrossingList {
     pub(crate) start: u32,
     pub(crate) falls: u32,
     pub(crate) wide: u32,
@@ -15,7 +15,7 @@ pub(crate) struct Part {
     pub(crate) end: u32,
 }
 
-impl Part {
+impl CrossingList {
     /// The places between which rows fall, from the start.
     pub(crate) fn falling(&self) -> (u32, u32) {
         let from = self.falls.wrapping_sub(self.start);
@@ -61,24 +61,34 @@ fn lay_out(counts: &mut [u32]) -> u32 {
 }
 
 /// Puts a crossing where the next one of its kind goes.
-fn put(next: &mut [u32], list: &mut [Crossing], place: u32, crossing: Crossing) -> Option<()> {
+fn put(
+    next: &mut [u32],
+    list: &mut [SlackCrossing],
+    place: u32,
+    crossing: SlackCrossing,
+) -> Option<()> {
     let at = number(next, place)?;
     *list.get_mut(at as usize)? = crossing;
     set_number(next, place, at.wrapping_add(1))
 }
 
 /// Puts the crossings of all rows.
-fn put_all(rows: &[Activity], period: u32, next: &mut [u32], list: &mut [Crossing]) -> Option<()> {
+fn put_all(
+    rows: &[Activity],
+    period: u32,
+    next: &mut [u32],
+    list: &mut [SlackCrossing],
+) -> Option<()> {
     let mut place = 0u32;
     for row in rows {
         if row.tail != row.head {
             let is_wide = row.is_wide(period);
-            let leaving = Crossing {
+            let leaving = SlackCrossing {
                 row: place,
                 grows: false,
             };
             put(next, list, place_of(row.tail, is_wide, false), leaving)?;
-            let coming = Crossing {
+            let coming = SlackCrossing {
                 row: place,
                 grows: true,
             };
@@ -90,7 +100,7 @@ fn put_all(rows: &[Activity], period: u32, next: &mut [u32], list: &mut [Crossin
 }
 
 /// Where each event's crossings are, from where each kind's end.
-fn parts_of(alloc: Global, ends: &[u32], events: u32) -> Result<Vec<Part>, AllocError> {
+fn parts_of(alloc: Global, ends: &[u32], events: u32) -> Result<Vec<CrossingList>, AllocError> {
     let mut parts = Vec::with_capacity(alloc, events as usize)?;
     let mut start = 0u32;
     for event in 0..events {
@@ -98,7 +108,7 @@ fn parts_of(alloc: Global, ends: &[u32], events: u32) -> Result<Vec<Part>, Alloc
         let wide = number(ends, place_of(event, false, false)).unwrap_or(falls);
         let grows = number(ends, place_of(event, true, false)).unwrap_or(wide);
         let end = number(ends, place_of(event, true, true)).unwrap_or(grows);
-        parts.push(Part {
+        parts.push(CrossingList {
             start,
             falls,
             wide,
@@ -116,11 +126,11 @@ pub(crate) fn stars(
     rows: &[Activity],
     period: u32,
     events: u32,
-) -> Result<(Vec<Crossing>, Vec<Part>), AllocError> {
+) -> Result<(Vec<SlackCrossing>, Vec<CrossingList>), AllocError> {
     let mut next = vec![in alloc; 0u32; (events as usize).saturating_mul(KINDS as usize)]?;
     count(rows, period, &mut next);
     let room = lay_out(&mut next);
-    let nothing = Crossing {
+    let nothing = SlackCrossing {
         row: 0,
         grows: false,
     };

@@ -6,7 +6,7 @@ use crate::plans::{between, individual, reheat};
 use crate::soft_search::{Anneal, Annealed, SoftSearch};
 use pesp_network::Network;
 use pesp_problem::Memory;
-use pesp_soft_annealing::Plan;
+use pesp_soft_annealing::AnnealPlan;
 use pesp_timetables::{Found, Merge};
 use std::alloc::Global;
 use std::mem::replace;
@@ -19,7 +19,7 @@ const MOST_PIECES: u32 = 1_000_000;
 
 /// What a pool is of: individuals; the best of before and a timetable of others; or reheats of a timetable, and that.
 #[derive(Clone, Copy)]
-enum Stage {
+enum PoolStage {
     Group,
     Join,
     Round,
@@ -27,7 +27,7 @@ enum Stage {
 
 /// What comes next: an anneal of a whole timetable, one between the clusters of a merge, or nothing.
 #[derive(Clone, Copy, PartialEq, Eq)]
-enum Next {
+enum NextAnneal {
     Anneal,
     Between,
     Nothing,
@@ -38,8 +38,8 @@ enum Next {
 /// cheaper.
 #[derive(Drop)]
 pub(crate) struct Course {
-    stage: Stage,
-    next: Next,
+    stage: PoolStage,
+    next: NextAnneal,
     effort: SoftEffort,
     from: Vec<u32>,
     before: Option<u64>,
@@ -55,8 +55,8 @@ impl Course {
     /// Nothing was begun.
     pub(crate) fn none(alloc: Global) -> Course {
         Course {
-            stage: Stage::Group,
-            next: Next::Nothing,
+            stage: PoolStage::Group,
+            next: NextAnneal::Nothing,
             effort: SoftEffort::after(0, 0),
             from: Vec::new(alloc),
             before: None,
@@ -70,20 +70,20 @@ impl Course {
     }
 
     /// Begins a stage of so much work, without a pool.
-    fn begin(&mut self, stage: Stage, effort: &SoftEffort) {
+    fn begin(&mut self, stage: PoolStage, effort: &SoftEffort) {
         self.stage = stage;
         self.effort = *effort;
-        self.next = Next::Anneal;
+        self.next = NextAnneal::Anneal;
         self.made = 0;
         self.done = 0;
         self.quiet = 0;
     }
 
     /// How a whole timetable is annealed next, and how often that is for a pool.
-    fn plan(&self) -> (Plan, u32) {
+    fn plan(&self) -> (AnnealPlan, u32) {
         let effort = &self.effort;
         match self.stage {
-            Stage::Round => (reheat(effort.again, self.made), effort.reheats),
+            PoolStage::Round => (reheat(effort.again, self.made), effort.reheats),
             _ => (individual(effort.sweeps, effort.prices), effort.individuals),
         }
     }
@@ -111,13 +111,13 @@ impl Course {
     fn go_again(&mut self) {
         let effort = &self.effort;
         let (most, patience) = match self.stage {
-            Stage::Round => (effort.rounds, effort.quiet),
+            PoolStage::Round => (effort.rounds, effort.quiet),
             _ => (effort.groups, effort.patience),
         };
         self.next = if self.done < most && self.quiet < patience {
-            Next::Anneal
+            NextAnneal::Anneal
         } else {
-            Next::Nothing
+            NextAnneal::Nothing
         };
     }
 }
@@ -137,7 +137,7 @@ impl SoftSearch {
         let Some(lower) = self.descend(network, slacks)? else {
             return Ok(());
         };
-        self.course.begin(Stage::Group, effort);
+        self.course.begin(PoolStage::Group, effort);
         self.course.from = lower;
         self.course.before = self.cheapest.cost();
         Ok(())
@@ -157,7 +157,7 @@ impl SoftSearch {
             && self.joined != Some(found.cost)
         {
             self.joined = Some(found.cost);
-            self.course.begin(Stage::Join, effort);
+            self.course.begin(PoolStage::Join, effort);
             self.course.pool = self.parents(found)?;
             return self.open_merge(network);
         }
@@ -166,7 +166,7 @@ impl SoftSearch {
 
     /// Whether nothing is left of what was begun.
     pub fn is_over(&self) -> bool {
-        self.course.next == Next::Nothing
+        self.course.next == NextAnneal::Nothing
     }
 
     /// Whether an anneal has begun that isn't over.
@@ -177,9 +177,9 @@ impl SoftSearch {
     /// Makes the next piece of what was begun: an anneal, or some sweeps of it where there are many rows.
     pub fn make_piece(&mut self, network: &Network) -> Result<(), Memory> {
         match self.course.next {
-            Next::Anneal => self.anneal_whole(network),
-            Next::Between => self.anneal_between(network),
-            Next::Nothing => Ok(()),
+            NextAnneal::Anneal => self.anneal_whole(network),
+            NextAnneal::Between => self.anneal_between(network),
+            NextAnneal::Nothing => Ok(()),
         }
     }
 
@@ -218,7 +218,7 @@ impl SoftSearch {
 
     /// Begins rounds of reheats of the cheapest timetable.
     fn begin_rounds(&mut self, effort: &SoftEffort) -> Result<(), Memory> {
-        self.course.next = Next::Nothing;
+        self.course.next = NextAnneal::Nothing;
         let Some(best) = self.cheapest.found() else {
             return Ok(());
         };
@@ -226,7 +226,7 @@ impl SoftSearch {
             return Ok(());
         }
         let best = best.copy(self.alloc)?;
-        self.course.begin(Stage::Round, effort);
+        self.course.begin(PoolStage::Round, effort);
         self.course.before = Some(best.cost);
         self.course.from = best.slacks;
         Ok(())
@@ -237,7 +237,7 @@ impl SoftSearch {
         &mut self,
         network: &Network,
         slacks: &[u32],
-        plan: Plan,
+        plan: AnnealPlan,
     ) -> Result<Annealed, Memory> {
         let begun = match self.course.anneal.take() {
             Some(anneal) => Some(anneal),
@@ -282,7 +282,7 @@ impl SoftSearch {
 
     /// Puts what was reheated behind its reheats.
     fn add_reheated(&mut self) -> Result<(), Memory> {
-        if let (Stage::Round, Some(cost)) = (self.course.stage, self.course.before) {
+        if let (PoolStage::Round, Some(cost)) = (self.course.stage, self.course.before) {
             let slacks = Vec::from_slice(self.alloc, &self.course.from)?;
             self.course.pool.push(Found { slacks, cost })?;
         }
@@ -297,7 +297,7 @@ impl SoftSearch {
             self.course.merge = Merge::of(self.alloc, network, pool)?;
         }
         self.course.made = 0;
-        self.course.next = Next::Between;
+        self.course.next = NextAnneal::Between;
         if self.course.merge.is_some() {
             return Ok(());
         }
@@ -364,9 +364,9 @@ impl SoftSearch {
         let effort = self.course.effort;
         self.course.count(&best);
         match (self.course.stage, best) {
-            (Stage::Join, _) => return self.begin_rounds(&effort),
-            (Stage::Group, Some(top)) => self.tops.push(top)?,
-            (Stage::Round, Some(found)) => self.course.take(found),
+            (PoolStage::Join, _) => return self.begin_rounds(&effort),
+            (PoolStage::Group, Some(top)) => self.tops.push(top)?,
+            (PoolStage::Round, Some(found)) => self.course.take(found),
             _ => {}
         }
         self.course.go_again();

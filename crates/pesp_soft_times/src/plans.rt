@@ -1,6 +1,6 @@
 //! How soft anneals cool: heats and prices in 32nds of the mean cost of a row.
 
-use pesp_soft_annealing::{Cooling, Plan};
+use pesp_soft_annealing::{AnnealPlan, Cooling};
 
 /// What a unit of time above a span costs at the end of a soft anneal, and how often that was doubled until then.
 #[derive(Clone, Copy)]
@@ -29,8 +29,8 @@ impl Prices {
 }
 
 /// The plan of a soft anneal at these prices, and of a hard one of so many sweeps.
-fn plan(soft: Cooling, prices: Prices, hard_sweeps: u32) -> Plan {
-    Plan {
+fn plan(soft: Cooling, prices: Prices, hard_sweeps: u32) -> AnnealPlan {
+    AnnealPlan {
         soft,
         hard: Cooling {
             sweeps: hard_sweeps,
@@ -43,7 +43,7 @@ fn plan(soft: Cooling, prices: Prices, hard_sweeps: u32) -> Plan {
 }
 
 /// An individual: from four times the mean to a half of it, in so many sweeps, and then from the mean to a 32nd of it.
-pub(crate) fn individual(sweeps: u32, prices: Prices) -> Plan {
+pub(crate) fn individual(sweeps: u32, prices: Prices) -> AnnealPlan {
     let soft = Cooling {
         sweeps,
         top: 128,
@@ -53,7 +53,7 @@ pub(crate) fn individual(sweeps: u32, prices: Prices) -> Plan {
 }
 
 /// A search from good timetables, from the mean, or the second one from one and a half times that, to a half of it.
-fn from_good(sweeps: u32, number: u32, hard_sweeps: u32) -> Plan {
+fn from_good(sweeps: u32, number: u32, hard_sweeps: u32) -> AnnealPlan {
     let (top, sixteenths) = if number == 1 { (48, 25) } else { (32, 16) };
     let soft = Cooling {
         sweeps,
@@ -64,11 +64,11 @@ fn from_good(sweeps: u32, number: u32, hard_sweeps: u32) -> Plan {
 }
 
 /// A search between the clusters of a merge.
-pub(crate) fn between(sweeps: u32, number: u32) -> Plan {
+pub(crate) fn between(sweeps: u32, number: u32) -> AnnealPlan {
     from_good(sweeps, number, 200)
 }
 
 /// A reheat of a good timetable.
-pub(crate) fn reheat(sweeps: u32, number: u32) -> Plan {
+pub(crate) fn reheat(sweeps: u32, number: u32) -> AnnealPlan {
     from_good(sweeps, number, 100)
 }

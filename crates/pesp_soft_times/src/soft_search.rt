@@ -1,11 +1,11 @@
 //! Timetables by anneals in which spans may be broken.
 
 use crate::course::Course;
+use pesp_forest::Random;
 use pesp_network::Network;
 use pesp_problem::Memory;
 use pesp_propagate::dive_to;
-use pesp_search_tools::Random;
-use pesp_soft_annealing::{Plan, SoftAnnealer};
+use pesp_soft_annealing::{AnnealPlan, SoftAnnealer};
 use pesp_timetables::{
     Cheapest, Found, MOST_REOPTIMISED, cheaper, reoptimised, slacks_of, times_of,
 };
@@ -50,7 +50,7 @@ fn sweeps_a_piece(network: &Network) -> u32 {
 #[derive(Drop)]
 pub(crate) struct Anneal {
     annealer: SoftAnnealer,
-    plan: Plan,
+    plan: AnnealPlan,
     sweeps: u32,
 }
 
@@ -132,7 +132,7 @@ impl SoftSearch {
         &mut self,
         network: &Network,
         slacks: &[u32],
-        plan: Plan,
+        plan: AnnealPlan,
     ) -> Result<Option<Anneal>, Memory> {
         match self.annealer(network, slacks)? {
             Some(annealer) => Ok(Some(Anneal {

@@ -6,10 +6,10 @@ ghost use Rattle.pesp_truth.specs.Certificates.{IsValid};
 ghost use Rattle.pesp_worker.specs.HandingIn.{IsWorkOn, IsWorkRefusal};
 
 use pesp_cert::Certificate;
+use pesp_cert_items::WorkText;
 use pesp_problem::Instance;
 use pesp_times::TimesSearch;
 use pesp_worker::{WorkRefusal, work_on_all};
-use pesp_works::WorkText;
 use std::alloc::Global;
 
 /// Works on an open leaf of a valid certificate, by at most so many splits. Open leaves are numbered from 0 in the order of the

@@ -13,7 +13,7 @@ ghost use Rattle.pesp_tasks.specs.Outside.{WritesWorks, WorkCause};
 use pesp_runs::{Fault, run_alone, run_on_base};
 use pesp_search::Nobody;
 use pesp_stream::{Sink, Source};
-use pesp_tasks::{Solve, Work};
+use pesp_tasks::{Solve, WorkTask};
 use pesp_times::TimesSearch;
 use std::alloc::Global;
 
@@ -94,7 +94,7 @@ pub fn run_work<R: Source, B: Source, W: Sink>(
         period jobs.now steps until (base_reader.new ≡ base_reader.old)) }
     ensures silent { IfErr result (λ fault. fault ≢ Fault.Write → writer.new ≡ writer.old) }
 {
-    let mut work = Work {
+    let mut work = WorkTask {
         steps,
         until,
         jobs,

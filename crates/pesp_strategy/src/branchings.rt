@@ -6,7 +6,7 @@ use std::alloc::{AllocError, Global};
 /// A leaf: the cut that it was split by, by the places of its parts; and its basis as it is written down, empty where it
 /// isn't known, with the leaf's value by it.
 #[derive(Drop)]
-struct Place {
+struct SplitRecord {
     split: Option<Split>,
     codes: Vec<u8>,
     value: i128,
@@ -30,7 +30,7 @@ struct Split {
 /// The leaves below the root, by their places, and how many bytes of bases may still be kept.
 #[derive(Drop)]
 pub(crate) struct Branchings {
-    places: Vec<Place>,
+    places: Vec<SplitRecord>,
     room: usize,
 }
 
@@ -58,7 +58,7 @@ impl Branchings {
     /// A leaf more; its place.
     fn add(&mut self, alloc: Global) -> Result<u32, AllocError> {
         let place = u32::try_from(self.places.len()).unwrap_or(u32::MAX);
-        self.places.push(Place {
+        self.places.push(SplitRecord {
             split: None,
             codes: Vec::new(alloc),
             value: 0,

@@ -1,6 +1,6 @@
 //! Which cuts are looked at.
 
-use crate::experience::Side;
+use crate::experience::SideGains;
 use pesp_forest::{Cycles, Frame};
 use pesp_relaxation::Basis;
 use std::alloc::{AllocError, Global};
@@ -23,8 +23,8 @@ pub(crate) struct Candidate {
 /// doesn't count.
 #[derive(Clone, Copy)]
 pub(crate) struct Judges<'a> {
-    pub(crate) low: &'a Side,
-    pub(crate) high: &'a Side,
+    pub(crate) low: &'a SideGains,
+    pub(crate) high: &'a SideGains,
     pub(crate) cap: u64,
 }
 

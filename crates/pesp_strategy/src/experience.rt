@@ -21,7 +21,7 @@ const NO_GAINS: Gains = Gains {
 
 /// The gains of one side of all cuts, for each cycle, and for all, there divided by the weight and 1.
 #[derive(Drop)]
-pub(crate) struct Side {
+pub(crate) struct SideGains {
     by_cycle: Vec<Gains>,
     all: Gains,
 }
@@ -41,10 +41,10 @@ impl Gains {
     }
 }
 
-impl Side {
+impl SideGains {
     /// No gains for so many cycles.
-    pub(crate) fn new(alloc: Global, cycles: usize) -> Result<Side, AllocError> {
-        Ok(Side {
+    pub(crate) fn new(alloc: Global, cycles: usize) -> Result<SideGains, AllocError> {
+        Ok(SideGains {
             by_cycle: vec![in alloc; NO_GAINS; cycles]?,
             all: NO_GAINS,
         })

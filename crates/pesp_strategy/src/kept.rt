@@ -7,7 +7,7 @@ use std::alloc::{AllocError, Global};
 
 /// What a timetable must cost less than, times that do, where some were met with, and a row at which prices were no times.
 #[derive(Drop)]
-pub(crate) struct Kept {
+pub(crate) struct Incumbent {
     pub(crate) limit: i128,
     pub(crate) is_known: bool,
     pub(crate) times: Option<Vec<u32>>,
@@ -24,14 +24,14 @@ fn no_cost(frame: &Frame) -> i128 {
     sum
 }
 
-impl Kept {
+impl Incumbent {
     /// No times below what the best timetable costs, where one is known.
-    pub(crate) fn new(frame: &Frame, best: Option<i128>) -> Kept {
+    pub(crate) fn new(frame: &Frame, best: Option<i128>) -> Incumbent {
         let limit = match best {
             Some(cost) => cost,
             None => no_cost(frame),
         };
-        Kept {
+        Incumbent {
             limit,
             is_known: best.is_some(),
             times: None,

@@ -12,4 +12,4 @@ mod settings;
 mod strategy;
 mod weights;
 
-pub use strategy::{Advice, Part, Split, Strategy};
+pub use strategy::{Advice, PartPairs, Split, Strategy};

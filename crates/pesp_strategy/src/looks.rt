@@ -2,20 +2,20 @@
 
 use crate::branchings::Written;
 use crate::candidates::Candidate;
-use crate::experience::Side;
-use crate::kept::Kept;
-use crate::weights::{Leaf, Weight, score};
+use crate::experience::SideGains;
+use crate::kept::Incumbent;
+use crate::weights::{LeafRanges, Weight, score};
 use pesp_forest::{Cycles, Frame};
 use pesp_problem::Pair;
-use pesp_relaxation::{Basis, Change, Ended};
+use pesp_relaxation::{Basis, PivotEnd, RowChange};
 use std::alloc::{AllocError, Global};
 use std::mem::swap;
 
 /// What was found for a part of a cut: the rows that differ from the leaf's, and whether the basis is a best one. Of the best cut
 /// also pairs, and the basis as it is written down, where it is a best one.
 #[derive(Drop)]
-pub(crate) struct Found {
-    changes: Vec<Change>,
+pub(crate) struct FoundPart {
+    changes: Vec<RowChange>,
     is_best: bool,
     pub(crate) pairs: Vec<Pair>,
     codes: Vec<u8>,
@@ -24,9 +24,9 @@ pub(crate) struct Found {
 
 /// What was found for both parts of a cut.
 #[derive(Drop)]
-pub(crate) struct Parts {
-    pub(crate) low: Found,
-    pub(crate) high: Found,
+pub(crate) struct FoundParts {
+    pub(crate) low: FoundPart,
+    pub(crate) high: FoundPart,
 }
 
 /// The basis of a leaf, and the same one, which goes on to parts and back; what was found for the cut that is looked at, and
@@ -35,15 +35,15 @@ pub(crate) struct Parts {
 pub(crate) struct Bases {
     pub(crate) leaf: Basis,
     tried: Basis,
-    looked_at: Parts,
-    pub(crate) best: Parts,
+    looked_at: FoundParts,
+    pub(crate) best: FoundParts,
 }
 
 /// What cuts have gained on either side.
 #[derive(Drop)]
-pub(crate) struct Experience {
-    pub(crate) low: Side,
-    pub(crate) high: Side,
+pub(crate) struct SidePseudoCosts {
+    pub(crate) low: SideGains,
+    pub(crate) high: SideGains,
 }
 
 /// A cut that was looked at, and what its parts are worth.
@@ -54,10 +54,10 @@ pub(crate) struct Looked {
     pub(crate) high: Weight,
 }
 
-impl Found {
+impl FoundPart {
     /// Nothing yet.
-    fn nothing(alloc: Global) -> Found {
-        Found {
+    fn nothing(alloc: Global) -> FoundPart {
+        FoundPart {
             changes: Vec::new(alloc),
             is_best: false,
             pairs: Vec::new(alloc),
@@ -79,8 +79,8 @@ impl Found {
     }
 
     /// Notes how a basis differs from the leaf's.
-    fn note(&mut self, basis: &Basis, ended: Ended) -> Result<(), AllocError> {
-        self.is_best = ended == Ended::Best;
+    fn note(&mut self, basis: &Basis, ended: PivotEnd) -> Result<(), AllocError> {
+        self.is_best = ended == PivotEnd::Best;
         basis.put_changes(&mut self.changes)
     }
 
@@ -96,12 +96,12 @@ impl Found {
     }
 }
 
-impl Parts {
+impl FoundParts {
     /// Nothing yet.
-    fn nothing(alloc: Global) -> Parts {
-        Parts {
-            low: Found::nothing(alloc),
-            high: Found::nothing(alloc),
+    fn nothing(alloc: Global) -> FoundParts {
+        FoundParts {
+            low: FoundPart::nothing(alloc),
+            high: FoundPart::nothing(alloc),
         }
     }
 }
@@ -114,8 +114,8 @@ impl Bases {
             Ok(tried) => Ok(Bases {
                 leaf,
                 tried,
-                looked_at: Parts::nothing(alloc),
-                best: Parts::nothing(alloc),
+                looked_at: FoundParts::nothing(alloc),
+                best: FoundParts::nothing(alloc),
             }),
             Err(refused) => {
                 drop(leaf);
@@ -128,8 +128,8 @@ impl Bases {
     fn note(
         &mut self,
         alloc: Global,
-        leaf: &Leaf<'_>,
-        kept: &mut Kept,
+        leaf: &LeafRanges<'_>,
+        kept: &mut Incumbent,
         weight: Weight,
         is_high: bool,
     ) -> Result<(), AllocError> {
@@ -145,7 +145,7 @@ impl Bases {
 
     /// Writes down what was found for the parts of the best cut; None where it can't.
     fn write_best(&mut self, cycles: &Cycles) -> Result<Option<()>, AllocError> {
-        let Parts { low, high } = &mut self.best;
+        let FoundParts { low, high } = &mut self.best;
         let is_low_written = low.write(cycles, &mut self.tried)?.is_some();
         if !is_low_written || self.tried.go_back(&self.leaf).is_none() {
             return Ok(None);
@@ -157,8 +157,8 @@ impl Bases {
     fn look_at_part(
         &mut self,
         alloc: Global,
-        leaf: &Leaf<'_>,
-        kept: &mut Kept,
+        leaf: &LeafRanges<'_>,
+        kept: &mut Incumbent,
         cut: &Candidate,
         is_high: bool,
     ) -> Result<Option<Weight>, AllocError> {
@@ -176,8 +176,8 @@ impl Bases {
     fn look_at(
         &mut self,
         alloc: Global,
-        leaf: &Leaf<'_>,
-        kept: &mut Kept,
+        leaf: &LeafRanges<'_>,
+        kept: &mut Incumbent,
         cut: &Candidate,
     ) -> Result<Option<Looked>, AllocError> {
         let Some(low) = self.look_at_part(alloc, leaf, kept, cut, false)? else {
@@ -194,12 +194,12 @@ impl Bases {
     }
 }
 
-impl Experience {
+impl SidePseudoCosts {
     /// No gains for so many cycles.
-    pub(crate) fn new(alloc: Global, cycles: usize) -> Result<Experience, AllocError> {
-        Ok(Experience {
-            low: Side::new(alloc, cycles)?,
-            high: Side::new(alloc, cycles)?,
+    pub(crate) fn new(alloc: Global, cycles: usize) -> Result<SidePseudoCosts, AllocError> {
+        Ok(SidePseudoCosts {
+            low: SideGains::new(alloc, cycles)?,
+            high: SideGains::new(alloc, cycles)?,
         })
     }
 
@@ -215,10 +215,10 @@ impl Experience {
 /// gained and a timetable that costs less, where one was met with.
 fn best_of(
     alloc: Global,
-    leaf: &Leaf<'_>,
-    kept: &mut Kept,
+    leaf: &LeafRanges<'_>,
+    kept: &mut Incumbent,
     bases: &mut Bases,
-    experience: &mut Experience,
+    experience: &mut SidePseudoCosts,
     cuts: &[Candidate],
 ) -> Result<Option<Looked>, AllocError> {
     let mut best = None;
@@ -244,10 +244,10 @@ fn best_of(
 /// The best of these cuts, with what was found for its parts.
 pub(crate) fn best_cut(
     alloc: Global,
-    leaf: &Leaf<'_>,
-    kept: &mut Kept,
+    leaf: &LeafRanges<'_>,
+    kept: &mut Incumbent,
     bases: &mut Bases,
-    experience: &mut Experience,
+    experience: &mut SidePseudoCosts,
     cuts: &[Candidate],
 ) -> Result<Option<Looked>, AllocError> {
     if bases.tried.copy_from(&bases.leaf).is_none() {

@@ -2,23 +2,23 @@
 
 use crate::branchings::{Branchings, Written};
 use crate::candidates::{Candidate, Judges, candidates};
-use crate::kept::Kept;
-use crate::looks::{Bases, Experience, Found, Looked, best_cut};
+use crate::kept::Incumbent;
+use crate::looks::{Bases, FoundPart, Looked, SidePseudoCosts, best_cut};
 use crate::settings::{
     CUTS, CUTS_NEAR_ROOT, CUTS_OF_MANY_ROWS, FEW_ROWS, FIRST_CUTS, KEPT_BYTES, SHALLOW,
 };
-use crate::weights::{Leaf, Weight};
+use crate::weights::{LeafRanges, Weight};
 use pesp_forest::{Cycles, Frame};
 use pesp_network::Network;
 use pesp_problem::{Cut, Memory, Pair, Side};
-use pesp_relaxation::{Basis, Ended, MOST_PIVOTS, Root};
+use pesp_relaxation::{Basis, MOST_PIVOTS, PivotEnd, Root};
 use std::alloc::{AllocError, Global};
 use std::mem::swap;
 
 /// Pairs for a leaf, with the value that they should have there; or, where it is endless, pairs whose value with all weights 0
 /// should be above 0, so that no timetable is there.
 #[derive(Drop)]
-pub struct Part {
+pub struct PartPairs {
     pub pairs: Vec<Pair>,
     pub value: i128,
     pub is_endless: bool,
@@ -29,22 +29,22 @@ pub struct Part {
 pub struct Split {
     pub cycle: u32,
     pub k: i64,
-    pub low: Part,
-    pub high: Part,
+    pub low: PartPairs,
+    pub high: PartPairs,
 }
 
 /// What is proposed for a leaf: pairs for the leaf itself; a cut, where one is to be found by its prices; and times of the
 /// network's events that may be a timetable which costs less than the best so far, where such were met with.
 #[derive(Drop)]
 pub struct Advice {
-    pub leaf: Part,
+    pub leaf: PartPairs,
     pub cut: Option<Split>,
     pub times: Option<Vec<u32>>,
 }
 
 /// A network with its forest, and by how much offsets are named above those of its own cycles.
 #[derive(Drop)]
-struct Setting {
+struct StrategySetting {
     frame: Frame,
     cycles: Cycles,
     shifts: Vec<i64>,
@@ -52,15 +52,15 @@ struct Setting {
 
 /// The bases of the leaf that is looked at and of its parts, what cuts have gained so far, and the leaves so far.
 #[derive(Drop)]
-struct Work {
+struct StrategyWork {
     bases: Bases,
-    experience: Experience,
+    experience: SidePseudoCosts,
     branchings: Branchings,
 }
 
 /// A leaf that is looked at: its ranges, its pairs, its place among those so far, and how many cuts lead there.
 #[derive(Clone, Copy)]
-struct Looking<'a> {
+struct LeafAtWork<'a> {
     slacks: &'a [(u32, u32)],
     offsets: &'a [(i64, i64)],
     pairs: &'a [Pair],
@@ -71,8 +71,8 @@ struct Looking<'a> {
 /// A network with its forest, and what was learned from the cuts so far.
 #[derive(Drop)]
 pub struct Strategy {
-    setting: Setting,
-    work: Work,
+    setting: StrategySetting,
+    work: StrategyWork,
 }
 
 /// By how much offsets are named above those of the network's own cycles.
@@ -129,24 +129,24 @@ fn cuts_for(rows: usize, depth: usize, so_far: u64) -> usize {
 /// How the search for a leaf's best basis ended, and the leaf's value where it was written down with the basis.
 #[derive(Clone, Copy)]
 struct Settled {
-    ended: Ended,
+    ended: PivotEnd,
     value: Option<i128>,
 }
 
 /// What the leaf of a best basis is worth.
-fn value_of(setting: &Setting, work: &Work, looking: &Looking<'_>) -> i128 {
+fn value_of(setting: &StrategySetting, work: &StrategyWork, looking: &LeafAtWork<'_>) -> i128 {
     base_cost(&setting.frame, looking.slacks).saturating_sub(work.bases.leaf.cost())
 }
 
 /// The cuts of a leaf that are looked at, the likeliest first.
 fn cuts(
     alloc: Global,
-    setting: &Setting,
-    work: &Work,
-    looking: &Looking<'_>,
+    setting: &StrategySetting,
+    work: &StrategyWork,
+    looking: &LeafAtWork<'_>,
     cap: u128,
 ) -> Result<Vec<Candidate>, AllocError> {
-    let Experience { low, high } = &work.experience;
+    let SidePseudoCosts { low, high } = &work.experience;
     let judges = Judges {
         low,
         high,
@@ -164,10 +164,10 @@ fn cuts(
 }
 
 /// What is proposed for a part that was looked at; its pairs are taken out of what was found.
-fn part_of(alloc: Global, found: &mut Found, weight: Weight) -> Part {
+fn part_of(alloc: Global, found: &mut FoundPart, weight: Weight) -> PartPairs {
     let mut pairs = Vec::new(alloc);
     swap(&mut pairs, &mut found.pairs);
-    Part {
+    PartPairs {
         pairs,
         value: weight.value,
         is_endless: weight.is_endless(),
@@ -175,7 +175,7 @@ fn part_of(alloc: Global, found: &mut Found, weight: Weight) -> Part {
 }
 
 /// The split of a cut that was looked at.
-fn split_of(alloc: Global, setting: &Setting, bases: &mut Bases, looked: &Looked) -> Split {
+fn split_of(alloc: Global, setting: &StrategySetting, bases: &mut Bases, looked: &Looked) -> Split {
     let cycle = looked.cut.cycle;
     let place = (cycle as usize).wrapping_sub(1);
     let shift = setting.shifts.get(place).copied().unwrap_or(0);
@@ -191,12 +191,12 @@ fn split_of(alloc: Global, setting: &Setting, bases: &mut Bases, looked: &Looked
 /// Keeps the bases of both parts of a split, and proposes it.
 fn proposed(
     alloc: Global,
-    setting: &Setting,
-    work: &mut Work,
+    setting: &StrategySetting,
+    work: &mut StrategyWork,
     place: u32,
     looked: &Looked,
 ) -> Result<Split, AllocError> {
-    let Work {
+    let StrategyWork {
         bases,
         branchings,
         ..
@@ -220,16 +220,16 @@ fn proposed(
 /// The best cut of a leaf of this value, whose basis is a best one.
 fn choose(
     alloc: Global,
-    setting: &Setting,
-    work: &mut Work,
-    looking: &Looking<'_>,
-    kept: &mut Kept,
+    setting: &StrategySetting,
+    work: &mut StrategyWork,
+    looking: &LeafAtWork<'_>,
+    kept: &mut Incumbent,
     value: i128,
 ) -> Result<Option<Split>, AllocError> {
     if kept.closes(value) {
         return Ok(None);
     }
-    let leaf = Leaf {
+    let leaf = LeafRanges {
         frame: &setting.frame,
         cycles: &setting.cycles,
         slacks: looking.slacks,
@@ -237,7 +237,7 @@ fn choose(
         value,
     };
     let found = cuts(alloc, setting, work, looking, kept.cap(value))?;
-    let Work {
+    let StrategyWork {
         bases,
         experience,
         ..
@@ -252,12 +252,12 @@ fn choose(
 /// None where that has no ranges for some row or cycle.
 fn settle(
     alloc: Global,
-    setting: &Setting,
+    setting: &StrategySetting,
     basis: &mut Basis,
-    looking: &Looking<'_>,
+    looking: &LeafAtWork<'_>,
     written: Written<'_>,
 ) -> Result<Option<Settled>, AllocError> {
-    let Setting { frame, cycles, .. } = setting;
+    let StrategySetting { frame, cycles, .. } = setting;
     let ranges = basis.set_ranges(frame, cycles, looking.slacks, looking.offsets);
     if ranges.is_none() {
         return Ok(None);
@@ -265,7 +265,7 @@ fn settle(
     let Written { codes, value } = written;
     if !codes.is_empty() && basis.restore(alloc, frame, codes)?.is_some() {
         return Ok(Some(Settled {
-            ended: Ended::Best,
+            ended: PivotEnd::Best,
             value: Some(value),
         }));
     }
@@ -284,13 +284,13 @@ fn settle(
 /// The value of a leaf whose search for a best basis ended so, and its best cut, where that basis was found.
 fn value_and_cut(
     alloc: Global,
-    setting: &Setting,
-    work: &mut Work,
-    looking: &Looking<'_>,
-    kept: &mut Kept,
+    setting: &StrategySetting,
+    work: &mut StrategyWork,
+    looking: &LeafAtWork<'_>,
+    kept: &mut Incumbent,
     settled: Settled,
 ) -> Result<(i128, Option<Split>), AllocError> {
-    if settled.ended != Ended::Best {
+    if settled.ended != PivotEnd::Best {
         return Ok((0, None));
     }
     kept.offer(alloc, &setting.frame, &work.bases.leaf)?;
@@ -305,22 +305,22 @@ fn value_and_cut(
 /// What is proposed for a leaf whose search for a best basis ended so.
 fn advise(
     alloc: Global,
-    setting: &Setting,
-    work: &mut Work,
-    looking: &Looking<'_>,
+    setting: &StrategySetting,
+    work: &mut StrategyWork,
+    looking: &LeafAtWork<'_>,
     settled: Settled,
     best: Option<i128>,
 ) -> Result<Advice, AllocError> {
-    let mut kept = Kept::new(&setting.frame, best);
+    let mut kept = Incumbent::new(&setting.frame, best);
     let (value, cut) = value_and_cut(alloc, setting, work, looking, &mut kept, settled)?;
     match work.bases.leaf.pairs(alloc, &setting.cycles) {
         Ok(pairs) => {
-            let leaf = Part {
+            let leaf = PartPairs {
                 pairs,
                 value,
-                is_endless: settled.ended == Ended::Endless,
+                is_endless: settled.ended == PivotEnd::Endless,
             };
-            let Kept { times, .. } = kept;
+            let Incumbent { times, .. } = kept;
             Ok(Advice { leaf, cut, times })
         }
         Err(refused) => {
@@ -365,16 +365,16 @@ fn cycles_and_shifts(
     }
 }
 
-impl Setting {
+impl StrategySetting {
     /// The setting of a network, where the root's offsets are named so. None where the root has a cycle without an offset.
     fn new(
         alloc: Global,
         network: &Network,
         named: &[(i64, i64)],
-    ) -> Result<Option<Setting>, Memory> {
+    ) -> Result<Option<StrategySetting>, Memory> {
         let frame = Frame::new(alloc, network)?;
         match cycles_and_shifts(alloc, network, &frame, named) {
-            Ok(Some((cycles, shifts))) => Ok(Some(Setting {
+            Ok(Some((cycles, shifts))) => Ok(Some(StrategySetting {
                 frame,
                 cycles,
                 shifts,
@@ -392,8 +392,11 @@ impl Setting {
 }
 
 /// No gains for so many cycles, and no leaves but the root.
-fn nothing_learned(alloc: Global, cycles: usize) -> Result<(Experience, Branchings), AllocError> {
-    let experience = Experience::new(alloc, cycles)?;
+fn nothing_learned(
+    alloc: Global,
+    cycles: usize,
+) -> Result<(SidePseudoCosts, Branchings), AllocError> {
+    let experience = SidePseudoCosts::new(alloc, cycles)?;
     match Branchings::new(alloc, KEPT_BYTES) {
         Ok(branchings) => Ok((experience, branchings)),
         Err(refused) => {
@@ -403,12 +406,12 @@ fn nothing_learned(alloc: Global, cycles: usize) -> Result<(Experience, Branchin
     }
 }
 
-impl Work {
+impl StrategyWork {
     /// No flows, and no gains.
-    fn new(alloc: Global, setting: &Setting) -> Result<Work, AllocError> {
+    fn new(alloc: Global, setting: &StrategySetting) -> Result<StrategyWork, AllocError> {
         let (experience, branchings) = nothing_learned(alloc, setting.cycles.count())?;
         match Bases::idle(alloc, &setting.frame) {
-            Ok(bases) => Ok(Work {
+            Ok(bases) => Ok(StrategyWork {
                 bases,
                 experience,
                 branchings,
@@ -430,10 +433,10 @@ impl Strategy {
         network: &Network,
         root: &[(i64, i64)],
     ) -> Result<Option<Strategy>, Memory> {
-        let Some(setting) = Setting::new(alloc, network, root)? else {
+        let Some(setting) = StrategySetting::new(alloc, network, root)? else {
             return Ok(None);
         };
-        match Work::new(alloc, &setting) {
+        match StrategyWork::new(alloc, &setting) {
             Ok(work) => Ok(Some(Strategy { setting, work })),
             Err(_) => {
                 drop(setting);
@@ -463,7 +466,7 @@ impl Strategy {
     ) -> Result<Option<Advice>, Memory> {
         let Strategy { setting, work } = self;
         let own = own_offsets(alloc, offsets, &setting.shifts)?;
-        let looking = Looking {
+        let looking = LeafAtWork {
             slacks,
             offsets: &own,
             pairs,

@@ -1,13 +1,13 @@
 //! What the two parts of a leaf are worth by a cut.
 
 use crate::candidates::Candidate;
-use crate::kept::Kept;
+use crate::kept::Incumbent;
 use pesp_forest::{Cycles, Frame};
-use pesp_relaxation::{Basis, Ended, MOST_PIVOTS, slopes_of};
+use pesp_relaxation::{Basis, MOST_PIVOTS, PivotEnd, slopes_of};
 
 /// A leaf: its ranges, and its value.
 #[derive(Clone, Copy)]
-pub(crate) struct Leaf<'a> {
+pub(crate) struct LeafRanges<'a> {
     pub(crate) frame: &'a Frame,
     pub(crate) cycles: &'a Cycles,
     pub(crate) slacks: &'a [(u32, u32)],
@@ -21,10 +21,10 @@ pub(crate) struct Leaf<'a> {
 pub(crate) struct Weight {
     pub(crate) value: i128,
     pub(crate) gain: u128,
-    pub(crate) ended: Ended,
+    pub(crate) ended: PivotEnd,
 }
 
-impl Leaf<'_> {
+impl LeafRanges<'_> {
     /// The offsets of the cut's cycle in a part.
     fn part(&self, cut: &Candidate, is_high: bool) -> Option<(i64, i64)> {
         let place = (cut.cycle as usize).checked_sub(1)?;
@@ -39,11 +39,11 @@ impl Leaf<'_> {
     /// Goes on from the leaf's basis towards a best one of a part, until the part closes.
     fn solve_part(
         &self,
-        kept: &Kept,
+        kept: &Incumbent,
         basis: &mut Basis,
         cut: &Candidate,
         is_high: bool,
-    ) -> Option<Ended> {
+    ) -> Option<PivotEnd> {
         let offsets = self.part(cut, is_high)?;
         let row = self.frame.row(cut.row)?;
         let slacks = self.slacks.get(cut.row as usize).copied()?;
@@ -56,14 +56,14 @@ impl Leaf<'_> {
     /// Goes on from the leaf's basis towards a best one of a part, and says what the part is worth.
     pub(crate) fn weigh(
         &self,
-        kept: &Kept,
+        kept: &Incumbent,
         basis: &mut Basis,
         cut: &Candidate,
         is_high: bool,
     ) -> Option<Weight> {
         let ended = self.solve_part(kept, basis, cut, is_high)?;
         let cap = kept.cap(self.value);
-        if ended == Ended::Endless {
+        if ended == PivotEnd::Endless {
             return Some(Weight {
                 value: 0,
                 gain: cap,
@@ -82,11 +82,11 @@ impl Leaf<'_> {
 impl Weight {
     /// Whether the part has no timetable.
     pub(crate) fn is_endless(self) -> bool {
-        self.ended == Ended::Endless
+        self.ended == PivotEnd::Endless
     }
 
     /// Whether the part has no timetable that costs less than the best one.
-    pub(crate) fn is_closed(self, kept: &Kept) -> bool {
+    pub(crate) fn is_closed(self, kept: &Incumbent) -> bool {
         self.is_endless() || kept.closes(self.value)
     }
 
@@ -99,7 +99,7 @@ impl Weight {
 
 /// How good a cut of a leaf of this value is whose parts are worth this: the product of both gains, as far as they count;
 /// better than any product, and then by the lesser gain, where one part closes.
-pub(crate) fn score(kept: &Kept, value: i128, low: Weight, high: Weight) -> u128 {
+pub(crate) fn score(kept: &Incumbent, value: i128, low: Weight, high: Weight) -> u128 {
     let cap = kept.cap(value);
     let below = low.share(cap);
     let above = high.share(cap);

@@ -1,2 +1,4 @@
 pub mod Fronts
 pub mod Printing
+pub mod Digits
+pub mod SplitPieces

@@ -4,8 +4,8 @@ use Rattle.std.proofs.Math.Nat.{mod-eq_of_lt, add-mul-mod_self_left}
 use Rattle.std.proofs.lemmas.Bool.{cases_lt}
 use Rattle.pesp_problem.specs.Families.{Family}
 use Rattle.pesp_problem.proofs.Shifts.{mod_more, mod_same, mod_inner, cancel}
-use Rattle.pesp_support.specs.Sets.{is_set, span, family_at}
-use Rattle.pesp_support.specs.Windows.{HasPartner, Narrows, IsLeast, IsTaken}
+use Rattle.pesp_support.specs.Sets.{is_set, padded_period, family_at}
+use Rattle.pesp_support.specs.Windows.{HasPartner, NarrowsFamily, IsLeast, IsTaken}
 use Rattle.pesp_support.proofs.Placing.{at_place, below, places_apart, same_places}
 
 -- the next difference of an event is so far from a place, round the period
@@ -104,7 +104,7 @@ taken_one t kept other first n p gap old xs ys l lf g gaps k h =
     let same : (event d : ℕ) → (event ≢ kept) ⊎ (d ≢ d0)
     → family_at t ys event d ≡ family_at t xs event d =
     λ event d o. same_places t event d xs ys (λ ld.
-    k.others (event * span t + d) (λ q. apart event d ld o q)) in
+    k.others (event * padded_period t + d) (λ q. apart event d ld o q)) in
     let gone : family_at t ys kept d0 ≡ false = at_place t kept d0 ys k.below ∙ k.gone in
     record {
       else = λ event d ne. same event d (inl ne) ∙ h.else event d ne;
@@ -131,10 +131,10 @@ taken_one t kept other first n p gap old xs ys l lf g gaps k h =
     split : (p q : ℕ) → p ≤ q → (p ≡ q) ⊎ (p + 1 ≤ q)
     split p q h = grind arith
 
-    apart : (event d : ℕ) → d < t → (event ≢ kept) ⊎ (d ≢ k.difference) → event * span t + d ≡ kept * span t + k.difference → ⊥
+    apart : (event d : ℕ) → d < t → (event ≢ kept) ⊎ (d ≢ k.difference) → event * padded_period t + d ≡ kept * padded_period t + k.difference → ⊥
     apart event d ld (inl n) q = places_apart t event kept d k.difference ld k.below n q
     apart event d ld (inr n) q = elim (same_or event kept) [
-      | inl e ↦ let m : event * span t ≡ kept * span t = ap (λ x. x * span t) e in n (omega arith)
+      | inl e ↦ let m : event * padded_period t ≡ kept * padded_period t = ap (λ x. x * padded_period t) e in n (omega arith)
       | inr m ↦ places_apart t event kept d k.difference ld k.below m q
     ]
 
@@ -149,7 +149,7 @@ taken_one t kept other first n p gap old xs ys l lf g gaps k h =
 
 -- at the period's start all is narrowed
 pub all_places : (t kept other first n : ℕ) (old : Family) (ys : List ℕ)
-    → Partly t kept other first n 0 old (family_at t ys) → Narrows t kept other first n old (family_at t ys)
+    → Partly t kept other first n 0 old (family_at t ys) → NarrowsFamily t kept other first n old (family_at t ys)
 all_places t kept other first n old ys h = record {
   else = h.else;
   was = h.was;
@@ -159,7 +159,7 @@ all_places t kept other first n old ys h = record {
 
 -- a window of the whole period finds each difference
 pub whole : (t kept other first n b : ℕ) (ws : List ℕ) → 0 < t → t ≤ n → family_at t ws other b ≡ true
-    → Narrows t kept other first n (family_at t ws) (family_at t ws)
+    → NarrowsFamily t kept other first n (family_at t ws) (family_at t ws)
 whole t kept other first n b ws p m s = record {
   else = λ _ _ _. refl;
   was = λ _ h. h;
@@ -189,13 +189,13 @@ bool_cases false = inr refl
 
 pub gap_step : (t kept other first n i p gap next : ℕ) (old : Family) (xs : List ℕ) → i < t → p ≡ t - 1 - i
     → kept ≢ other → IsGap t other old (t - i) gap → Partly t kept other first n (t - i) old (family_at t xs)
-    → (is_set xs (other * span t + p) ≡ true → next ≡ 0)
-    → (is_set xs (other * span t + p) ≡ false → next ≡ gap + 1) → IsGap t other old p next
+    → (is_set xs (other * padded_period t + p) ≡ true → next ≡ 0)
+    → (is_set xs (other * padded_period t + p) ≡ false → next ≡ gap + 1) → IsGap t other old p next
 gap_step t kept other first n i p gap next old xs l ep ne gaps part here further =
     let lp : p < t = omega arith in
     let up : t - i ≡ p + 1 = omega arith in
-    let same : old other p ≡ is_set xs (other * span t + p) = sym (part.else other p (λ e. ne (sym e))) ∙ at_place t other p xs lp in
-    elim (bool_cases (is_set xs (other * span t + p))) [
+    let same : old other p ≡ is_set xs (other * padded_period t + p) = sym (part.else other p (λ e. ne (sym e))) ∙ at_place t other p xs lp in
+    elim (bool_cases (is_set xs (other * padded_period t + p))) [
       | inl e ↦ subst (λ g. IsGap t other old p g) (sym (here e)) (gap_here t other p old lp (same ∙ e))
       | inr e ↦ subst (λ g. IsGap t other old p g) (sym (further e))
           (gap_further t other p gap old lp (same ∙ e) (subst (λ m. IsGap t other old m gap) up gaps))

@@ -8,8 +8,8 @@ use Rattle.pesp_problem.proofs.Shifts.{LeadBoth, lead_both, loop_remainder}
 use Rattle.pesp_problem.specs.Words.{IsLess}
 use Rattle.pesp_problem.proofs.Words.{sum_most}
 use Rattle.pesp_support.specs.Sets.{family_at}
-use Rattle.pesp_support.specs.Windows.{Narrows}
-use Rattle.pesp_support.specs.Visits.{HasSome, LiesAt, RefutesAt, Revises, IsNarrowed}
+use Rattle.pesp_support.specs.Windows.{NarrowsFamily}
+use Rattle.pesp_support.specs.Visits.{HasSome, LiesAt, RefutesAt, RevisesFamily, IsNarrowed}
 use Rattle.pesp_support.proofs.Placing.{below}
 
 -- differences lie below the period
@@ -22,7 +22,7 @@ same_or a b = grind arith
 along : (s : Family) (event : ℕ) {a b : ℕ} → a ≡ b → s event b ≡ true → s event a ≡ true
 along s event e h = ap (λ d. s event d) e ∙ h
 
-narrow_within : (t kept other first n : ℕ) (old new : Family) → Narrows t kept other first n old new → IsWithin new old
+narrow_within : (t kept other first n : ℕ) (old new : Family) → NarrowsFamily t kept other first n old new → IsWithin new old
 narrow_within t kept other first n old new h event d s = elim (same_or event kept) [
   | inl e ↦ subst (λ x. old x d ≡ true) (sym e) (h.was d (subst (λ x. new x d ≡ true) e s))
   | inr n ↦ sym (h.else event d n) ∙ s
@@ -30,7 +30,7 @@ narrow_within t kept other first n old new h event d s = elim (same_or event kep
 
 -- what a supported family has at the tail is kept there
 tails_kept : (t : ℕ) (arc : Arc) (low high ahead back n : ℕ) (old mid s : Family) → AreBelow t old
-    → LeadBoth t arc low high ahead back n → Narrows t arc.tail arc.head ahead n old mid
+    → LeadBoth t arc low high ahead back n → NarrowsFamily t arc.tail arc.head ahead n old mid
     → IsSupportedBy t arc (low, high) s → LiesAt arc s old → (a : ℕ) → s arc.tail a ≡ true → mid arc.tail a ≡ true
 tails_kept t arc low high ahead back n old mid s bel lead one sup lies a m =
     let q = sup.tails a m in
@@ -41,7 +41,7 @@ tails_kept t arc low high ahead back n old mid s bel lead one sup lies a m =
 
 pub revised : (t : ℕ) (arc : Arc) (low high ahead back n : ℕ) (old mid new : Family) → 0 < t → arc.tail ≢ arc.head
     → AreBelow t old → LeadBoth t arc low high ahead back n
-    → Narrows t arc.tail arc.head ahead n old mid → Narrows t arc.head arc.tail back n mid new → Revises t arc (low, high) old new
+    → NarrowsFamily t arc.tail arc.head ahead n old mid → NarrowsFamily t arc.head arc.tail back n mid new → RevisesFamily t arc (low, high) old new
 revised t arc low high ahead back n old mid new p ne bel lead one two =
     let tail_same : (d : ℕ) → new arc.tail d ≡ mid arc.tail d = λ d. two.else arc.tail d ne in
     let head_same : (d : ℕ) → mid arc.head d ≡ old arc.head d = λ d. one.else arc.head d (λ e. ne (sym e)) in
@@ -106,7 +106,7 @@ lead_of : (t l : ℕ) (arc : Arc) (low high ahead back n : ℕ) → AreWindows t
 lead_of t l arc low high ahead back n w = leads t l arc low high ahead back n w.some w.shift w.ahead_is w.back_is w.count_is
 
 pub tail_refutes : (t l : ℕ) (arc : Arc) (low high ahead back n : ℕ) (xs ys : List ℕ)
-    → AreWindows t l arc low high ahead back n → Narrows t arc.tail arc.head ahead n (family_at t xs)
+    → AreWindows t l arc low high ahead back n → NarrowsFamily t arc.tail arc.head ahead n (family_at t xs)
     (family_at t ys) → (HasSome (family_at t ys) arc.tail → ⊥) → RefutesAt t arc (low, high) (family_at t xs)
 tail_refutes t l arc low high ahead back n xs ys w one none s sup lies st sh =
     none (
@@ -117,8 +117,8 @@ tail_refutes t l arc low high ahead back n xs ys w one none s sup lies st sh =
 
 pub head_refutes : (t l : ℕ) (arc : Arc) (low high ahead back n : ℕ) (xs ys zs : List ℕ)
     → AreWindows t l arc low high ahead back n → arc.tail ≢ arc.head
-    → Narrows t arc.tail arc.head ahead n (family_at t xs) (family_at t ys)
-    → Narrows t arc.head arc.tail back n (family_at t ys) (family_at t zs)
+    → NarrowsFamily t arc.tail arc.head ahead n (family_at t xs) (family_at t ys)
+    → NarrowsFamily t arc.head arc.tail back n (family_at t ys) (family_at t zs)
     → (HasSome (family_at t zs) arc.head → ⊥) → RefutesAt t arc (low, high) (family_at t xs)
 head_refutes t l arc low high ahead back n xs ys zs w ne one two none s sup lies st sh =
     let r = revised t arc low high ahead back n (family_at t xs) (family_at t ys) (family_at t zs) w.some ne
@@ -127,8 +127,8 @@ head_refutes t l arc low high ahead back n xs ys zs w ne one two none s sup lies
 
 pub narrowed : (t l : ℕ) (arc : Arc) (low high ahead back n : ℕ) (xs ys zs : List ℕ) (tail head : Bool)
     → AreWindows t l arc low high ahead back n → arc.tail ≢ arc.head
-    → Narrows t arc.tail arc.head ahead n (family_at t xs) (family_at t ys)
-    → Narrows t arc.head arc.tail back n (family_at t ys) (family_at t zs) → IsLess xs ys tail → IsLess ys zs head
+    → NarrowsFamily t arc.tail arc.head ahead n (family_at t xs) (family_at t ys)
+    → NarrowsFamily t arc.head arc.tail back n (family_at t ys) (family_at t zs) → IsLess xs ys tail → IsLess ys zs head
     → HasSome (family_at t ys) arc.tail → HasSome (family_at t zs) arc.head
     → IsNarrowed t arc (low, high) xs zs (record { tail = tail; head = head })
 narrowed t l arc low high ahead back n xs ys zs tail head w ne one two lt lh st sh =

@@ -13,7 +13,7 @@ use Rattle.pesp_problem.specs.Arcs.{arc_of, arcs_of, no_arc}
 use Rattle.pesp_problem.specs.Forests.{IsFirstOf}
 use Rattle.pesp_problem.specs.Limits.{KeepsLimits, RowKeepsLimits}
 use Rattle.pesp_problem.specs.Families.{Family, NoFamilyIsSupported}
-use Rattle.pesp_support.specs.Sets.{is_set, span, family_at}
+use Rattle.pesp_support.specs.Sets.{is_set, padded_period, family_at}
 use Rattle.pesp_problem.specs.ArcLimits.{HaveEnds}
 use Rattle.pesp_support.specs.Rounds.{net_at, IsWide}
 use Rattle.pesp_support.specs.Supports.{IsStart, Rows}
@@ -34,16 +34,16 @@ pub record Taking (t event i : ℕ) (old new : List ℕ) : Type 0 where
   pub others : (other d : ℕ) → other ≢ event → family_at t new other d ≡ family_at t old other d
 
 pub taking_more : (t event i : ℕ) (old xs ys : List ℕ) → 1 ≤ i → i < t → Taking t event i old xs
-    → is_set ys (event * span t + i) ≡ false → ((other : ℕ) → other ≢ event * span t + i
+    → is_set ys (event * padded_period t + i) ≡ false → ((other : ℕ) → other ≢ event * padded_period t + i
     → is_set ys other ≡ is_set xs other) → Taking t event (i + 1) old ys
 taking_more t event i old xs ys one l h gone others = record {
   gone = λ d m k. elim (same_or d i) [
     | inl e ↦ ap (λ x. family_at t ys event x) e ∙ (at_place t event i ys l ∙ gone)
-    | inr n ↦ same_places t event d xs ys (λ _. others (event * span t + d) (λ q. n (omega arith))) ∙ h.gone d m (omega arith)
+    | inr n ↦ same_places t event d xs ys (λ _. others (event * padded_period t + d) (λ q. n (omega arith))) ∙ h.gone d m (omega arith)
   ];
-  zero = same_places t event 0 xs ys (λ _. others (event * span t + 0) (λ q. absurd (omega arith))) ∙ h.zero;
+  zero = same_places t event 0 xs ys (λ _. others (event * padded_period t + 0) (λ q. absurd (omega arith))) ∙ h.zero;
   others = λ other d n. same_places t other d xs ys
-      (λ ld. others (other * span t + d) (places_apart t other event d i ld l n)) ∙ h.others other d n;
+      (λ ld. others (other * padded_period t + d) (places_apart t other event d i ld l n)) ∙ h.others other d n;
 }
 
 pub taken_all : (t event i : ℕ) (old new : List ℕ) → t ≤ i → Taking t event i old new → (d : ℕ) → family_at t new event d ≡ true → d ≡ 0
@@ -52,15 +52,15 @@ taken_all t event i old new m h d s = elim (cases_lt d 1) [
   | inr k ↦ let b = below t event d new s in absurd (true_or_false _ s (h.gone d k (omega arith)))
 ]
 
-place_fits : (t event d count m : ℕ) → event < count → d < t → count * span t ≤ m → event * span t + d < m
-place_fits t event d count m l ld h = let s = span_most t in let k = mul-add-lt event (span t) d count l (omega arith) in omega arith
+place_fits : (t event d count m : ℕ) → event < count → d < t → count * padded_period t ≤ m → event * padded_period t + d < m
+place_fits t event d count m l ld h = let s = span_most t in let k = mul-add-lt event (padded_period t) d count l (omega arith) in omega arith
 
-pub start_full : (t : ℕ) (firsts ws : List ℕ) (m : ℕ) → 0 < t → length firsts * span t ≤ m
+pub start_full : (t : ℕ) (firsts ws : List ℕ) (m : ℕ) → 0 < t → length firsts * padded_period t ≤ m
     → ((place : ℕ) → place < m → is_set ws place ≡ true) → IsStart t firsts 0 (family_at t ws)
 start_full t firsts ws m p fits full = record {
-  zero = λ event l. at_place t event 0 ws p ∙ full (event * span t + 0) (place_fits t event 0 (length firsts) m l p fits);
+  zero = λ event l. at_place t event 0 ws p ∙ full (event * padded_period t + 0) (place_fits t event 0 (length firsts) m l p fits);
   alone = λ event d l. absurd (omega arith);
-  others = λ event d l n ld. at_place t event d ws ld ∙ full (event * span t + d) (place_fits t event d (length firsts) m l ld fits);
+  others = λ event d l n ld. at_place t event d ws ld ∙ full (event * padded_period t + d) (place_fits t event d (length firsts) m l ld fits);
 }
 
 pub start_more : (t : ℕ) (firsts xs ys : List ℕ) (event : ℕ) → event < length firsts

@@ -8,10 +8,10 @@ use Rattle.std.proofs.lemmas.Bool.Decides.{nat_tests}
 use Rattle.std.proofs.lemmas.Nat.{and_le_l, shr-shr, shr_split, pow_pos}
 use Rattle.std.proofs.lemmas.Nat.Bits.{bit_at_or, bit_at_and, bit_at_not, bit_at_cat_low, bit_at_cat_high, bit_at-zero, bit_at-lt, bit_at-trailing_zeros, bit_at_ones, bit_at_ones_above}
 use Rattle.pesp_problem.proofs.Shifts.{mod_more, mod_same, mod_inner}
-use Rattle.pesp_support.specs.Sets.{is_set, span, family_at}
+use Rattle.pesp_support.specs.Sets.{is_set, padded_period, family_at}
 use Rattle.pesp_support.specs.Visits.{HasSome}
-use Rattle.pesp_support.specs.Windows.{Narrows}
-use Rattle.pesp_support.specs.Words.{IsBelow, IsTurned, HavePartners, IsKept}
+use Rattle.pesp_support.specs.Windows.{NarrowsFamily}
+use Rattle.pesp_support.specs.Words.{IsCutBelow, IsTurned, HavePartners, SetIsKept}
 use Rattle.pesp_support.proofs.Placing.{at_place, past}
 use Rattle.pesp_support.proofs.Placing as placing
 
@@ -36,7 +36,7 @@ split n k = grind arith
 
 -- ---- the part of a word below the period
 
-pub is_below : (t word : ℕ) → 0 < t → t ≤ 64 → IsBelow t word (bit_and word (18446744073709551615 / 2 ^ (64 - t)))
+pub is_below : (t word : ℕ) → 0 < t → t ≤ 64 → IsCutBelow t word (bit_and word (18446744073709551615 / 2 ^ (64 - t)))
 is_below t word p l = record {
   inside = λ d m.
       let e : bit_at (18446744073709551615 / 2 ^ (64 - t)) d ≡ 1 = bit_shr 18446744073709551615 (64 - t) d
@@ -64,7 +64,7 @@ turned_none t shift set e above = record {
 }
 
 pub is_turned : (t shift set round : ℕ) → t ≤ 64 → shift < t → ((d : ℕ) → t ≤ d → bit_at set d ≡ 0)
-    → IsBelow t (set * 2 ^ (t - shift) % 2 ^ 64) round → IsTurned t shift set (bit_or (set / 2 ^ shift) round)
+    → IsCutBelow t (set * 2 ^ (t - shift) % 2 ^ 64) round → IsTurned t shift set (bit_or (set / 2 ^ shift) round)
 is_turned t shift set round few l above h = record {
   inside = λ d m. elim (split (d + shift) t) [
     | inl k ↦
@@ -167,8 +167,8 @@ partners_more t first n k set old more p few h m = record {
 -- ---- keeping
 
 pub is_kept : (t event others part : ℕ) (ws : List ℕ) → t ≤ 64 → event < length ws → others < 2 ^ 64
-    → part < 2 ^ 64 → IsBelow t (get_or ws event 0) part
-    → IsKept t event others ws (set ws event (bit_and (get_or ws event 0)
+    → part < 2 ^ 64 → IsCutBelow t (get_or ws event 0) part
+    → SetIsKept t event others ws (set ws event (bit_and (get_or ws event 0)
     (bit_not w64 (bit_and part (bit_not w64 others)))))
 is_kept t event others part ws few l lo lp h =
     let w : ℕ = get_or ws event 0 in
@@ -195,14 +195,14 @@ is_kept t event others part ws few l lo lp h =
 
 -- ---- the sets of events
 
-span_one : (t : ℕ) → 0 < t → t ≤ 64 → span t ≡ 64
-unfolding span
+span_one : (t : ℕ) → 0 < t → t ≤ 64 → padded_period t ≡ 64
+unfolding padded_period
 span_one t p l = omega arith
 
-pub word_within : (ws : List ℕ) (t event : ℕ) → 0 < t → t ≤ 64 → event * span t + span t ≤ 64 * length ws → event < length ws
+pub word_within : (ws : List ℕ) (t event : ℕ) → 0 < t → t ≤ 64 → event * padded_period t + padded_period t ≤ 64 * length ws → event < length ws
 word_within ws t event p l h =
-    let e : span t ≡ 64 = span_one t p l in
-    let m : event * span t ≡ event * 64 = ap (λ x. event * x) e in
+    let e : padded_period t ≡ 64 = span_one t p l in
+    let m : event * padded_period t ≡ event * 64 = ap (λ x. event * x) e in
     omega arith
 
 at_word : (ws : List ℕ) (event d place : ℕ) → place / 64 ≡ event → place % 64 ≡ d
@@ -214,8 +214,8 @@ at_word ws event d place q r = ap (λ (m : ℕ). nat_eq (bit_at (get_or ws m 0) 
 -- a set is in its event's word
 in_word : (t event d : ℕ) (ws : List ℕ) → 0 < t → t ≤ 64 → d < t → family_at t ws event d ≡ nat_eq (bit_at (get_or ws event 0) d) 1
 in_word t event d ws p l m =
-    let e : event * span t ≡ event * 64 = ap (λ x. event * x) (span_one t p l) in
-    at_place t event d ws m ∙ at_word ws event d (event * span t + d) (omega arith) (omega arith)
+    let e : event * padded_period t ≡ event * 64 = ap (λ x. event * x) (span_one t p l) in
+    at_place t event d ws m ∙ at_word ws event d (event * padded_period t + d) (omega arith) (omega arith)
 
 one_is : (b : ℕ) → b ≡ 1 → nat_eq b 1 ≡ true
 one_is b e = grind (arith, nat_tests)
@@ -230,8 +230,8 @@ bit_has : (t event d : ℕ) (ws : List ℕ) → 0 < t → t ≤ 64 → d < t →
 bit_has t event d ws p l m s = in_word t event d ws p l m ∙ one_is _ s
 
 pub narrowed_word : (t kept other first count set partners : ℕ) (xs ys : List ℕ) → 0 < t → t ≤ 64
-    → IsBelow t (get_or xs other 0) set → HavePartners t first count set partners → IsKept t kept partners xs ys
-    → Narrows t kept other first count (family_at t xs) (family_at t ys)
+    → IsCutBelow t (get_or xs other 0) set → HavePartners t first count set partners → SetIsKept t kept partners xs ys
+    → NarrowsFamily t kept other first count (family_at t xs) (family_at t ys)
 narrowed_word t kept other first count set partners xs ys p l h m k = record {
   else = λ event d ne. elim (split d t) [
     | inl b ↦ in_word t event d ys p l b ∙ (ap (λ (w : ℕ). nat_eq (bit_at w d) 1) (k.else event ne) ∙ sym (in_word t event d xs p l b))
@@ -261,7 +261,7 @@ narrowed_word t kept other first count set partners xs ys p l h m k = record {
 -- ---- a set with a number
 
 pub some_number : (t event set : ℕ) (ws : List ℕ) → 0 < t → t ≤ 64 → set < 2 ^ 64
-    → IsBelow t (get_or ws event 0) set → set ≢ 0 → HasSome (family_at t ws) event
+    → IsCutBelow t (get_or ws event 0) set → set ≢ 0 → HasSome (family_at t ws) event
 some_number t event set ws p l b h ne =
     let f = bit_at-trailing_zeros w64 set (positive set ne) b in
     let d : ℕ = trailing_zeros w64 set in
@@ -273,7 +273,7 @@ some_number t event set ws p l b h ne =
     positive : (n : ℕ) → n ≢ 0 → 0 < n
     positive n h = omega arith
 
-pub no_number : (t event set : ℕ) (ws : List ℕ) → 0 < t → t ≤ 64 → IsBelow t (get_or ws event 0) set
+pub no_number : (t event set : ℕ) (ws : List ℕ) → 0 < t → t ≤ 64 → IsCutBelow t (get_or ws event 0) set
     → HasSome (family_at t ws) event → set ≢ 0
 no_number t event set ws p l h s e =
     let m = placing.below t event s.0 ws s.1 in

@@ -56,6 +56,6 @@ pub record Stepped (n : Net) (ranges : List (ℕ × ℕ)) (events : ℕ) (before
   pub marks : changed ≡ false → (event : ℕ) → is_marked was event ≡ false → is_marked now event ≡ false
 
 -- what a step at a row shows: that no family is supported, or what is known of the sets
-abbrev pub IsStep : Net → List (ℕ × ℕ) → ℕ → List Bool → List Bool → List Bool → ℕ → List ℕ → List ℕ → Option Bool → Type 0
-IsStep n ranges events before was now i old new None = NoFamilyIsSupported n ranges events
-IsStep n ranges events before was now i old new (Some changed) = Stepped n ranges events before was now i old new changed
+abbrev pub IsRoundStep : Net → List (ℕ × ℕ) → ℕ → List Bool → List Bool → List Bool → ℕ → List ℕ → List ℕ → Option Bool → Type 0
+IsRoundStep n ranges events before was now i old new None = NoFamilyIsSupported n ranges events
+IsRoundStep n ranges events before was now i old new (Some changed) = Stepped n ranges events before was now i old new changed

@@ -8,9 +8,9 @@ unfoldable pub is_set : List ℕ → ℕ → Bool
 is_set words place = nat_eq (bit_at (slice_index words (place / 64)) (place % 64)) 1
 
 -- how far the sets of two events are apart: the period, made up to whole words
-unfoldable pub span : ℕ → ℕ
-span period = (period + 63) / 64 * 64
+unfoldable pub padded_period : ℕ → ℕ
+padded_period period = (period + 63) / 64 * 64
 
 -- the sets of the events in order
 unfoldable pub family_at : ℕ → List ℕ → Family
-family_at period words event difference = nat_lt difference period && is_set words (event * span period + difference)
+family_at period words event difference = nat_lt difference period && is_set words (event * padded_period period + difference)

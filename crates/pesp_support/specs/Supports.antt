@@ -5,7 +5,7 @@ use Rattle.pesp_problem.specs.Arcs.{Net}
 use Rattle.pesp_problem.specs.Families.{Family}
 use Rattle.pesp_problem.specs.Forests.{IsFirstOf}
 use Rattle.pesp_problem.specs.ArcLimits.{HaveEnds}
-use Rattle.pesp_support.specs.Sets.{span}
+use Rattle.pesp_support.specs.Sets.{padded_period}
 
 -- a net between so many events
 pub record Rows : Type 0 where
@@ -13,14 +13,14 @@ pub record Rows : Type 0 where
   pub events : ℕ
 
 -- the limits; the first event of each event's component; and room for the sets and for two marks of each event
-pub record AreReady (rows : Rows) (firsts : List ℕ) (words before now : ℕ) : Type 0 where
+pub record AreReadyForRounds (rows : Rows) (firsts : List ℕ) (words before now : ℕ) : Type 0 where
   pub some_period : 0 < rows.net.period
   pub period_most : rows.net.period ≤ MOST_PERIOD
   pub events_most : rows.events ≤ MOST_EVENTS
   pub ends : HaveEnds rows.events rows.net.arcs
   pub long : length firsts ≡ rows.events
   pub first_events : (event : ℕ) → event < rows.events → IsFirstOf rows.net.arcs event (slice_index firsts event)
-  pub room : rows.events * span rows.net.period ≤ 64 * words
+  pub room : rows.events * padded_period rows.net.period ≤ 64 * words
   pub marks_before : before ≡ rows.events
   pub marks_now : now ≡ rows.events
 

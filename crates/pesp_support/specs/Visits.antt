@@ -20,14 +20,14 @@ RefutesAt period arc range sets = (s : Family) → IsSupportedBy period arc rang
     → HasSome s arc.tail → HasSome s arc.head → ⊥
 
 -- the row supports the sets at its ends, and nothing else was taken away
-pub record Revises (period : ℕ) (arc : Arc) (range : ℕ × ℕ) (old new : Family) : Type 0 where
+pub record RevisesFamily (period : ℕ) (arc : Arc) (range : ℕ × ℕ) (old new : Family) : Type 0 where
   pub supported : IsSupportedBy period arc range new
   pub within : IsWithin new old
   pub keeps : (s : Family) → IsSupportedBy period arc range s → LiesAt arc s old → LiesAt arc s new
   pub else : (event difference : ℕ) → event ≢ arc.tail → event ≢ arc.head → new event difference ≡ old event difference
 
 -- at each end it is known whether the set is another, and then the words have a smaller sum
-pub record Tells (period : ℕ) (arc : Arc) (old new : List ℕ) (narrowed : Narrowed) : Type 0 where
+pub record TellsEnds (period : ℕ) (arc : Arc) (old new : List ℕ) (narrowed : Narrowed) : Type 0 where
   pub tail : narrowed.tail ≡ false → (difference : ℕ) → family_at period new arc.tail difference ≡ family_at period old arc.tail difference
   pub head : narrowed.head ≡ false → (difference : ℕ) → family_at period new arc.head difference ≡ family_at period old arc.head difference
   pub less_tail : narrowed.tail ≡ true → sum new < sum old
@@ -36,8 +36,8 @@ pub record Tells (period : ℕ) (arc : Arc) (old new : List ℕ) (narrowed : Nar
 
 -- the sets at both ends were narrowed and are not empty
 pub record IsNarrowed (period : ℕ) (arc : Arc) (range : ℕ × ℕ) (old new : List ℕ) (narrowed : Narrowed) : Type 0 where
-  pub revises : Revises period arc range (family_at period old) (family_at period new)
-  pub tells : Tells period arc old new narrowed
+  pub revises : RevisesFamily period arc range (family_at period old) (family_at period new)
+  pub tells : TellsEnds period arc old new narrowed
   pub some_tail : HasSome (family_at period new) arc.tail
   pub some_head : HasSome (family_at period new) arc.head
 

@@ -1,14 +1,14 @@
 -- A set is narrowed to what has a partner in another.
 use Rattle.std.specs.Prelude.{◌≡◌, ◌≢◌, ℕ, ◌+◌, ◌*◌, ◌%◌, ◌<◌, ◌≤◌, List, true, false}
 use Rattle.pesp_problem.specs.Families.{Family}
-use Rattle.pesp_support.specs.Sets.{is_set, span}
+use Rattle.pesp_support.specs.Sets.{is_set, padded_period}
 
 -- one of so many shifts leads, round the period, to a difference of the other event
 abbrev pub HasPartner : ℕ → ℕ → ℕ → ℕ → Family → ℕ → Type 0
 HasPartner period other first count s d = (j : ℕ) × (j < count) × (s other ((d + (first + j)) % period) ≡ true)
 
 -- of one event's set exactly what has a partner is kept, and every other set is the same
-pub record Narrows (period kept other first count : ℕ) (old new : Family) : Type 0 where
+pub record NarrowsFamily (period kept other first count : ℕ) (old new : Family) : Type 0 where
   pub else : (event d : ℕ) → event ≢ kept → new event d ≡ old event d
   pub was : (d : ℕ) → new kept d ≡ true → old kept d ≡ true
   pub found : (d : ℕ) → new kept d ≡ true → HasPartner period other first count old d
@@ -25,5 +25,5 @@ pub record IsTaken (period kept shift place : ℕ) (old new : List ℕ) : Type 0
   pub difference : ℕ
   pub below : difference < period
   pub leads : (difference + shift) % period ≡ place
-  pub gone : is_set new (kept * span period + difference) ≡ false
-  pub others : (other : ℕ) → other ≢ kept * span period + difference → is_set new other ≡ is_set old other
+  pub gone : is_set new (kept * padded_period period + difference) ≡ false
+  pub others : (other : ℕ) → other ≢ kept * padded_period period + difference → is_set new other ≡ is_set old other

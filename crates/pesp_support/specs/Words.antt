@@ -3,7 +3,7 @@ use Rattle.std.specs.Prelude.{◌≡◌, ◌≢◌, ℕ, ◌+◌, ◌%◌, ◌<�
 use Rattle.std.specs.Int.{bit_at}
 
 -- the numbers of a word below the period
-pub record IsBelow (period word new : ℕ) : Type 0 where
+pub record IsCutBelow (period word new : ℕ) : Type 0 where
   pub inside : (d : ℕ) → d < period → bit_at new d ≡ bit_at word d
   pub above : (d : ℕ) → period ≤ d → bit_at new d ≡ 0
 
@@ -23,6 +23,6 @@ pub record HavePartners (period first count set new : ℕ) : Type 0 where
   pub above : (d : ℕ) → period ≤ d → bit_at new d ≡ 0
 
 -- of one event's numbers those among others were kept, and nothing else is changed below the period
-pub record IsKept (period event others : ℕ) (old new : List ℕ) : Type 0 where
+pub record SetIsKept (period event others : ℕ) (old new : List ℕ) : Type 0 where
   pub else : (i : ℕ) → i ≢ event → slice_index new i ≡ slice_index old i
   pub bits : (d : ℕ) → d < period → bit_at (slice_index new event) d ≡ min (bit_at (slice_index old event) d) (bit_at others d)

@@ -3,13 +3,13 @@
 ghost use Rattle.std.specs.Prelude.{◌≡◌, ◌≢◌, ℕ, ◌+◌, ◌*◌, ◌<◌, ◌≤◌, length, false};
 ghost use Rattle.pesp_problem.specs.declared.limits.TheConstants.{MOST_EVENTS, MOST_PERIOD};
 ghost use Rattle.pesp_problem.specs.Words.{IsLess};
-ghost use Rattle.pesp_support.specs.Sets.{is_set, span};
+ghost use Rattle.pesp_support.specs.Sets.{is_set, padded_period};
 
 /// How many words the sets of so many events take.
 pub fn words_for(period: usize, events: usize) -> usize
     requires period { period ≤ MOST_PERIOD }
     requires events { events ≤ MOST_EVENTS }
-    ensures { events * span period ≡ 64 * result }
+    ensures { events * padded_period period ≡ 64 * result }
 {
     events * period.div_ceil(64)
 }
@@ -19,7 +19,7 @@ fn place_of(period: usize, event: usize, difference: usize) -> usize
     requires period { period ≤ MOST_PERIOD }
     requires event { event ≤ MOST_EVENTS }
     requires difference { difference < period }
-    ensures { result ≡ event * span period + difference }
+    ensures { result ≡ event * padded_period period + difference }
 {
     event * (period.div_ceil(64) * 64) + difference
 }
@@ -29,8 +29,8 @@ pub fn has(words: &[u64], period: usize, event: usize, difference: usize) -> boo
     requires period { period ≤ MOST_PERIOD }
     requires event { event ≤ MOST_EVENTS }
     requires difference { difference < period }
-    requires long { event * span period + span period ≤ 64 * length words.now }
-    ensures { result ≡ is_set words.now (event * span period + difference) }
+    requires long { event * padded_period period + padded_period period ≤ 64 * length words.now }
+    ensures { result ≡ is_set words.now (event * padded_period period + difference) }
 {
     let place = place_of(period, event, difference);
     (words[place / 64] >> (place % 64)) & 1 == 1
@@ -41,9 +41,9 @@ pub fn remove(words: &mut [u64], period: usize, event: usize, difference: usize)
     requires period { period ≤ MOST_PERIOD }
     requires event { event ≤ MOST_EVENTS }
     requires difference { difference < period }
-    requires long { event * span period + span period ≤ 64 * length words.old }
-    ensures gone { is_set words.new (event * span period + difference) ≡ false }
-    ensures others { (other : ℕ) → other ≢ event * span period + difference
+    requires long { event * padded_period period + padded_period period ≤ 64 * length words.old }
+    ensures gone { is_set words.new (event * padded_period period + difference) ≡ false }
+    ensures others { (other : ℕ) → other ≢ event * padded_period period + difference
         → is_set words.new other ≡ is_set words.old other }
     ensures less { IsLess words.old words.new result }
 {

@@ -3,8 +3,8 @@
 ghost use Rattle.std.specs.Prelude.{◌≡◌, ◌≢◌, ℕ, ◌+◌, ◌*◌, ◌%◌, ◌^◌, ◌<◌, ◌≤◌, length, true, false};
 ghost use Rattle.pesp_problem.specs.declared.limits.TheConstants.{MOST_EVENTS, MOST_PERIOD};
 ghost use Rattle.pesp_problem.specs.Words.{IsLess};
-ghost use Rattle.pesp_support.specs.Sets.{is_set, span, family_at};
-ghost use Rattle.pesp_support.specs.Windows.{IsLeast, IsTaken, Narrows};
+ghost use Rattle.pesp_support.specs.Sets.{is_set, padded_period, family_at};
+ghost use Rattle.pesp_support.specs.Windows.{IsLeast, IsTaken, NarrowsFamily};
 
 use crate::bits::{has, remove};
 use crate::word::narrow_word;
@@ -20,7 +20,7 @@ pub struct Window {
 pub fn least(words: &[u64], period: usize, event: usize) -> usize
     requires period { period ≤ MOST_PERIOD }
     requires event { event ≤ MOST_EVENTS }
-    requires long { event * span period + span period ≤ 64 * length words.now }
+    requires long { event * padded_period period + padded_period period ≤ 64 * length words.now }
     ensures { IsLeast period event (family_at period words.now) result }
 {
     for difference in 0..period {
@@ -51,11 +51,11 @@ fn gap_at(words: &[u64], period: usize, other: usize, place: usize, gap: usize) 
     requires period { period ≤ MOST_PERIOD }
     requires other { other ≤ MOST_EVENTS }
     requires place { place < period }
-    requires long { other * span period + span period ≤ 64 * length words.now }
+    requires long { other * padded_period period + padded_period period ≤ 64 * length words.now }
     requires gap { gap < 2 ^ 32 }
     ensures most { result ≤ gap + 1 }
-    ensures here { is_set words.now (other * span period + place) ≡ true → result ≡ 0 }
-    ensures further { is_set words.now (other * span period + place) ≡ false
+    ensures here { is_set words.now (other * padded_period period + place) ≡ true → result ≡ 0 }
+    ensures further { is_set words.now (other * padded_period period + place) ≡ false
         → result ≡ gap + 1 }
 {
     if has(words, period, other, place) {
@@ -77,7 +77,7 @@ fn take_lonely(
 ) -> bool
     requires period { period ≤ MOST_PERIOD }
     requires event { kept ≤ MOST_EVENTS }
-    requires long { kept * span period + span period ≤ 64 * length words.old }
+    requires long { kept * padded_period period + padded_period period ≤ 64 * length words.old }
     requires place { place < period }
     requires first { window.first < period }
     ensures taken { window.count ≤ gap
@@ -98,12 +98,12 @@ pub fn narrow(words: &mut [u64], period: usize, kept: usize, other: usize, windo
     requires period { (0 < period) × (period ≤ MOST_PERIOD) }
     requires kept { kept ≤ MOST_EVENTS }
     requires other { other ≤ MOST_EVENTS }
-    requires long_kept { kept * span period + span period ≤ 64 * length words.old }
-    requires long_other { other * span period + span period ≤ 64 * length words.old }
+    requires long_kept { kept * padded_period period + padded_period period ≤ 64 * length words.old }
+    requires long_other { other * padded_period period + padded_period period ≤ 64 * length words.old }
     requires apart { kept ≢ other }
     requires first { window.first < period }
     requires some { (d : ℕ) × (family_at period words.old other d ≡ true) }
-    ensures narrows { Narrows period kept other window.first window.count
+    ensures narrows { NarrowsFamily period kept other window.first window.count
         (family_at period words.old) (family_at period words.new) }
     ensures less { IsLess words.old words.new result }
 {

@@ -4,9 +4,9 @@ ghost use Rattle.std.specs.Prelude.{◌≡◌, ℕ, ◌+◌, ◌*◌, ◌<◌, �
 ghost use Rattle.pesp_problem.specs.declared.limits.TheConstants.{MOST_EVENTS, MOST_PERIOD};
 ghost use Rattle.pesp_problem.specs.Arcs.{arc_at};
 ghost use Rattle.pesp_problem.specs.Families.{NoFamilyIsSupported};
-ghost use Rattle.pesp_support.specs.Sets.{span, family_at};
+ghost use Rattle.pesp_support.specs.Sets.{padded_period, family_at};
 ghost use Rattle.pesp_problem.specs.ArcLimits.{HaveEnds};
-ghost use Rattle.pesp_support.specs.Rounds.{net_at, IsWide, is_marked, IsQuiet, QuietRowsSupport, InRound, IsStep, IsRound};
+ghost use Rattle.pesp_support.specs.Rounds.{net_at, IsWide, is_marked, IsQuiet, QuietRowsSupport, InRound, IsRoundStep, IsRound};
 
 use crate::visit::{Narrowed, visit};
 use pesp_problem::Arc;
@@ -70,14 +70,14 @@ fn visit_at(
     requires events { length before.now ≤ MOST_EVENTS }
     requires ends { HaveEnds (length before.now) arcs.now }
     requires ranges { length ranges.now ≡ length arcs.now }
-    requires long { length before.now * span period ≤ 64 * length words.old }
+    requires long { length before.now * padded_period period ≤ 64 * length words.old }
     requires marks { length now.old ≡ length before.now }
     requires place { place < length arcs.now }
     requires wide { IsWide (net_at period arcs.now) ranges.now (length before.now)
         (family_at period words.old) }
     requires round { InRound (net_at period arcs.now) ranges.now before.now now.old place
         (family_at period words.old) }
-    ensures { IsStep (net_at period arcs.now) ranges.now (length before.now) before.now now.old
+    ensures { IsRoundStep (net_at period arcs.now) ranges.now (length before.now) before.now now.old
         now.new place words.old words.new result }
 {
     let arc = &arcs[place];
@@ -104,7 +104,7 @@ fn visit_rows(
     requires events { length before.now ≤ MOST_EVENTS }
     requires ends { HaveEnds (length before.now) arcs.now }
     requires ranges { length ranges.now ≡ length arcs.now }
-    requires long { length before.now * span period ≤ 64 * length words.old }
+    requires long { length before.now * padded_period period ≤ 64 * length words.old }
     requires marks { length now.old ≡ length before.now }
     requires unmarked { (event : ℕ) → event < length now.old → is_marked now.old event ≡ false }
     requires wide { IsWide (net_at period arcs.now) ranges.now (length before.now)
@@ -141,7 +141,7 @@ pub fn is_emptied(
     requires events { length before.old ≤ MOST_EVENTS }
     requires ends { HaveEnds (length before.old) arcs.now }
     requires ranges { length ranges.now ≡ length arcs.now }
-    requires long { length before.old * span period ≤ 64 * length words.old }
+    requires long { length before.old * padded_period period ≤ 64 * length words.old }
     requires marks { length now.old ≡ length before.old }
     requires wide { IsWide (net_at period arcs.now) ranges.now (length before.old)
         (family_at period words.old) }

@@ -5,7 +5,7 @@ ghost use Rattle.pesp_problem.specs.declared.limits.TheConstants.{MOST_EVENTS, M
 ghost use Rattle.pesp_problem.specs.Arcs.{net_of};
 ghost use Rattle.pesp_problem.specs.Limits.{KeepsLimits};
 ghost use Rattle.pesp_problem.specs.Families.{NoFamilyIsSupported};
-ghost use Rattle.pesp_support.specs.Sets.{is_set, span, family_at};
+ghost use Rattle.pesp_support.specs.Sets.{is_set, padded_period, family_at};
 ghost use Rattle.pesp_support.specs.Supports.{IsStart};
 
 use crate::bits::{remove, words_for};
@@ -29,7 +29,7 @@ pub struct Support {
 
 impl Model for Support {
     ghost use Rattle.std.specs.Prelude.{length};
-    ghost use Rattle.pesp_support.specs.Supports.{Rows, AreReady};
+    ghost use Rattle.pesp_support.specs.Supports.{Rows, AreReadyForRounds};
 
     ghost Value = { Rows };
 
@@ -38,7 +38,7 @@ impl Model for Support {
       events = s.events;
     } };
 
-    ghost invariant = { λ s. AreReady (record {
+    ghost invariant = { λ s. AreReadyForRounds (record {
       net = record { period = s.period; arcs = s.arcs.items };
       events = s.events;
     })
@@ -58,7 +58,7 @@ fn fill(words: &mut [u64])
 fn start_one(words: &mut [u64], period: usize, event: usize, first: usize)
     requires period { period ≤ MOST_PERIOD }
     requires event { event ≤ MOST_EVENTS }
-    requires long { event * span period + span period ≤ 64 * length words.old }
+    requires long { event * padded_period period + padded_period period ≤ 64 * length words.old }
     ensures alone { first ≡ event → (d : ℕ) → family_at period words.new event d ≡ true → d ≡ 0 }
     ensures whole { first ≢ event → words.new ≡ words.old }
     ensures zero { family_at period words.new event 0 ≡ family_at period words.old event 0 }
@@ -77,7 +77,7 @@ fn start_one(words: &mut [u64], period: usize, event: usize, first: usize)
 fn start(words: &mut [u64], period: usize, firsts: &[u32])
     requires period { (0 < period) × (period ≤ MOST_PERIOD) }
     requires events { length firsts.now ≤ MOST_EVENTS }
-    requires long { length firsts.now * span period ≤ 64 * length words.old }
+    requires long { length firsts.now * padded_period period ≤ 64 * length words.old }
     ensures { IsStart period firsts.now (length firsts.now) (family_at period words.new) }
 {
     fill(words);

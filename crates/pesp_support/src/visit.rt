@@ -3,8 +3,8 @@
 ghost use Rattle.std.specs.Prelude.{◌≡◌, ◌≢◌, ◌↔◌, ℕ, ◌+◌, ◌-◌, ◌*◌, ◌%◌, ◌<◌, ◌≤◌, length, pos, min, true, false, IsTrue};
 ghost use Rattle.std.specs.Int.{int_rem_euclid};
 ghost use Rattle.pesp_problem.specs.declared.limits.TheConstants.{MOST_EVENTS, MOST_PERIOD};
-ghost use Rattle.pesp_support.specs.Sets.{span, family_at};
-ghost use Rattle.pesp_support.specs.Windows.{Narrows};
+ghost use Rattle.pesp_support.specs.Sets.{padded_period, family_at};
+ghost use Rattle.pesp_support.specs.Windows.{NarrowsFamily};
 ghost use Rattle.pesp_support.specs.Visits.{HasSome, IsVisit};
 
 use crate::narrow::{Window, least, narrow};
@@ -41,7 +41,7 @@ fn loop_holds(period: usize, shift: usize, range: (u32, u32)) -> bool
 fn has_some(words: &[u64], period: usize, event: usize) -> bool
     requires period { (0 < period) × (period ≤ MOST_PERIOD) }
     requires event { event ≤ MOST_EVENTS }
-    requires long { event * span period + span period ≤ 64 * length words.now }
+    requires long { event * padded_period period + padded_period period ≤ 64 * length words.now }
     ensures { IsTrue result ↔ HasSome (family_at period words.now) event }
 {
     if period <= 64 {
@@ -83,8 +83,8 @@ fn revise(
 ) -> Option<Narrowed>
     requires period { (0 < period) × (period ≤ MOST_PERIOD) }
     requires apart { arc.now.tail ≢ arc.now.head }
-    requires tail { arc.now.tail * span period + span period ≤ 64 * length words.old }
-    requires head { arc.now.head * span period + span period ≤ 64 * length words.old }
+    requires tail { arc.now.tail * padded_period period + padded_period period ≤ 64 * length words.old }
+    requires head { arc.now.head * padded_period period + padded_period period ≤ 64 * length words.old }
     requires ends { (arc.now.tail ≤ MOST_EVENTS) × (arc.now.head ≤ MOST_EVENTS) }
     requires some_head { HasSome (family_at period words.old) arc.now.head }
     requires shift { pos shift ≡ int_rem_euclid arc.now.lower (pos period) }
@@ -106,8 +106,8 @@ fn revise(
 /// row supports has a difference at both ends.
 pub fn visit(words: &mut [u64], period: usize, arc: &Arc, range: (u32, u32)) -> Option<Narrowed>
     requires period { (0 < period) × (period ≤ MOST_PERIOD) }
-    requires tail { arc.now.tail * span period + span period ≤ 64 * length words.old }
-    requires head { arc.now.head * span period + span period ≤ 64 * length words.old }
+    requires tail { arc.now.tail * padded_period period + padded_period period ≤ 64 * length words.old }
+    requires head { arc.now.head * padded_period period + padded_period period ≤ 64 * length words.old }
     requires ends { (arc.now.tail ≤ MOST_EVENTS) × (arc.now.head ≤ MOST_EVENTS) }
     requires some_tail { HasSome (family_at period words.old) arc.now.tail }
     requires some_head { HasSome (family_at period words.old) arc.now.head }

@@ -3,17 +3,17 @@
 ghost use Rattle.std.specs.Prelude.{◌≡◌, ℕ, ◌+◌, ◌*◌, ◌%◌, ◌<◌, ◌≤◌, ◌↔◌, length, slice_index, IsTrue};
 ghost use Rattle.std.specs.Int.{bit_at};
 ghost use Rattle.pesp_problem.specs.Words.{IsLess};
-ghost use Rattle.pesp_support.specs.Sets.{span, family_at};
+ghost use Rattle.pesp_support.specs.Sets.{padded_period, family_at};
 ghost use Rattle.pesp_support.specs.Visits.{HasSome};
-ghost use Rattle.pesp_support.specs.Windows.{Narrows};
-ghost use Rattle.pesp_support.specs.Words.{IsBelow, IsTurned, HavePartners, IsKept};
+ghost use Rattle.pesp_support.specs.Windows.{NarrowsFamily};
+ghost use Rattle.pesp_support.specs.Words.{IsCutBelow, IsTurned, HavePartners, SetIsKept};
 
 use crate::narrow::Window;
 
 /// The numbers of a word below the period.
 fn below(word: u64, period: usize) -> u64
     requires { (0 < period) × (period ≤ 64) }
-    ensures { IsBelow period word result }
+    ensures { IsCutBelow period word result }
 {
     word & (u64::MAX >> (64 - period))
 }
@@ -22,7 +22,7 @@ fn below(word: u64, period: usize) -> u64
 fn set_of(words: &[u64], period: usize, event: usize) -> u64
     requires period { (0 < period) × (period ≤ 64) }
     requires event { event < length words.now }
-    ensures { IsBelow period (slice_index words.now event) result }
+    ensures { IsCutBelow period (slice_index words.now event) result }
 {
     below(words[event], period)
 }
@@ -67,7 +67,7 @@ fn partners_of(set: u64, period: usize, window: Window) -> u64
 fn keep(words: &mut [u64], period: usize, event: usize, others: u64) -> bool
     requires period { (0 < period) × (period ≤ 64) }
     requires event { event < length words.old }
-    ensures kept { IsKept period event others words.old words.new }
+    ensures kept { SetIsKept period event others words.old words.new }
     ensures less { IsLess words.old words.new result }
 {
     let word = words[event];
@@ -80,7 +80,7 @@ fn keep(words: &mut [u64], period: usize, event: usize, others: u64) -> bool
 /// Whether an event has a difference.
 pub fn has_number(words: &[u64], period: usize, event: usize) -> bool
     requires period { (0 < period) × (period ≤ 64) }
-    requires long { event * span period + span period ≤ 64 * length words.now }
+    requires long { event * padded_period period + padded_period period ≤ 64 * length words.now }
     ensures { IsTrue result ↔ HasSome (family_at period words.now) event }
 {
     set_of(words, period, event) != 0
@@ -96,11 +96,11 @@ pub fn narrow_word(
     window: Window,
 ) -> bool
     requires period { (0 < period) × (period ≤ 64) }
-    requires long_kept { kept * span period + span period ≤ 64 * length words.old }
-    requires long_other { other * span period + span period ≤ 64 * length words.old }
+    requires long_kept { kept * padded_period period + padded_period period ≤ 64 * length words.old }
+    requires long_other { other * padded_period period + padded_period period ≤ 64 * length words.old }
     requires first { window.first < period }
     requires count { window.count < period }
-    ensures narrows { Narrows period kept other window.first window.count
+    ensures narrows { NarrowsFamily period kept other window.first window.count
         (family_at period words.old) (family_at period words.new) }
     ensures less { IsLess words.old words.new result }
 {

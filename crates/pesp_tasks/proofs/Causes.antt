@@ -10,8 +10,8 @@ use Rattle.pesp_truth.proofs.Certificates.{valid_is_true}
 use Rattle.pesp_cert.specs.declared.refusal.CertRefusal.{CertRefusal}
 use Rattle.pesp_cert.specs.declared.refusal.CertRefusal.TheVariants.{Header, Line, Number, Limit, Truncated, Trailing, Memory as CertMemory}
 use Rattle.pesp_cert.specs.Texts.{spelling, HasText}
-use Rattle.pesp_works.specs.Works.{WorkValue}
-use Rattle.pesp_works.specs.Refusals.{RefusesFirst}
+use Rattle.pesp_cert_items.specs.Works.{WorkValue}
+use Rattle.pesp_cert_items.specs.Refusals.{RefusesFirstWork}
 use Rattle.pesp_worker.specs.declared.grafted.Reply.{Reply}
 use Rattle.pesp_worker.specs.Grafts.{IsGrafted}
 use Rattle.pesp_worker.specs.Texts.{reply_line}
@@ -23,7 +23,7 @@ use Rattle.pesp_tasks.specs.Outside.{works_fault, work_fault, WorksCause, JobCau
 
 -- a refusal of the works' text, or of memory
 pub works_cause : (refusal : CertRefusal) (told left : Option (List ℕ)) (calls after : Calls) (bytes : List ℕ)
-    → ReadsText told left 1073741824 bytes → RefusesFirst bytes refusal
+    → ReadsText told left 1073741824 bytes → RefusesFirstWork bytes refusal
     → WorksCause (works_fault refusal) (over told left calls after)
 works_cause CertMemory told left calls after bytes read first = tt
 works_cause Header told left calls after bytes read first =

@@ -6,7 +6,7 @@ use Rattle.std.proofs.lemmas.List.{append_cancel_left, take-append-drop}
 use Rattle.pesp_problem.specs.Timetables.{Pesp}
 use Rattle.pesp_instance.specs.Instance.{instance_of}
 use Rattle.pesp_instance.specs.declared.refusal.ReadRefusal.{ReadRefusal}
-use Rattle.pesp_truth.specs.Certificates.{Content}
+use Rattle.pesp_truth.specs.Certificates.{Content, IsValid, Front as FrontOf}
 use Rattle.pesp_cert.specs.declared.refusal.CertRefusal.{CertRefusal}
 use Rattle.pesp_cert_lines.specs.declared.versions.Versions.{Versions}
 use Rattle.pesp_cert_lines.specs.declared.versions.Versions.TheVariants.{Plain}
@@ -17,7 +17,6 @@ use Rattle.pesp_cert.proofs.TextLengths.{texts_short}
 use Rattle.pesp_cert_items.specs.Texts.{RefusesText}
 use Rattle.pesp_judges.specs.declared.refusal.Verdict.{Verdict}
 use Rattle.pesp_judges.specs.declared.refusal.Verdict.TheVariants.{Accepted}
-use Rattle.pesp_lemma.specs.Fronts.{IsValidBehind, Front as FrontOf}
 use Rattle.pesp_check_run.specs.Checking.{Checks, ReadsInstance, RefusesInstance}
 use Rattle.pesp_runs.specs.Reading.{HasBase, ReadsTimetable}
 use Rattle.pesp_tasks.specs.Solving.{Solves, WritesSolution}
@@ -43,15 +42,15 @@ same_content bytes read limit f g c d text spelt is whole =
     let same = none_begins_another g f d c (drop limit bytes) whole.has_text text joined in
     (same.0, same.1)
 
-accepted : (p q : Pesp) (f g : Option FrontOf) (c d : Content) (verdict : Verdict) → p ≡ q → (g ≡ f) × (d ≡ c) → IsValidBehind f p c
-    → (verdict ≡ Accepted) ↔ IsValidBehind g q d → verdict ≡ Accepted
+accepted : (p q : Pesp) (f g : Option FrontOf) (c d : Content) (verdict : Verdict) → p ≡ q → (g ≡ f) × (d ≡ c) → IsValid f p c
+    → (verdict ≡ Accepted) ↔ IsValid g q d → verdict ≡ Accepted
 accepted p q f g c d verdict same is valid exactly = exactly.1 (rw (← same, is.0, is.1) valid)
 
 -- a certificate that is valid for the instance of a text is accepted for it, where its text was appended
 pub accepts_written : (versions : Versions) (text before bytes : List ℕ)
     (left left_instance left_certificate old new : Option (List ℕ)) (period : ℕ)
     (verdict : Verdict) (p : Pesp) (front : Option FrontOf) (c : Content) → ReadsInstance (Some text) left period p
-    → IsValidBehind front p c → HasText front c
+    → IsValid front p c → HasText front c
     → Appends (Some before) (Some (before ++ bytes)) (spelling front c)
     → Checks versions (Some text) left_instance (Some bytes) left_certificate period verdict (Appends old new)
     → verdict ≡ Accepted

@@ -2,14 +2,13 @@
 use Rattle.std.proofs.Common.{inl, inr, ℕ, ◌≤◌, List, None, Some}
 use Rattle.std.specs.Prelude.{Option}
 use Rattle.pesp_problem.specs.Timetables.{Pesp}
-use Rattle.pesp_truth.specs.Certificates.{Content}
+use Rattle.pesp_truth.specs.Certificates.{Content, Front as FrontOf}
 use Rattle.pesp_truth.proofs.Certificates.{valid_is_true}
-use Rattle.pesp_lemma.specs.Fronts.{Front as FrontOf}
 use Rattle.pesp_cert.specs.Texts.{spelling, HasText}
 use Rattle.pesp_cert.specs.Fronted.{Fronted}
-use Rattle.pesp_resume.specs.declared.ending.Ending.{Ending}
-use Rattle.pesp_resume.specs.Resuming.{IsResumed}
-use Rattle.pesp_resume.proofs.Resumptions.{resumed_weaker}
+use Rattle.pesp_turns.specs.declared.resume_ending.ResumeEnding.{ResumeEnding}
+use Rattle.pesp_turns.specs.Resuming.{IsResumed}
+use Rattle.pesp_turns.proofs.Resumptions.{resumed_weaker}
 use Rattle.pesp_check_run.specs.Devices.{Device, GetsFront}
 use Rattle.pesp_runs.specs.Causes.{OutCause}
 use Rattle.pesp_runs.specs.declared.fault.Fault.{Fault}
@@ -20,7 +19,7 @@ use Rattle.pesp_tasks.specs.Resuming.{WritesResumed, GoesOnBy, WritesGoneOn}
 
 -- the writer got what is said of the certificate's text
 pub writes : {p : Pesp} {base certificate : Content} {steps : ℕ} {stopped : Type 0} {Gets : List ℕ → Type 0}
-    (used : ℕ) (ending : Ending) → 1 ≤ p.period → IsResumed p base steps stopped used ending certificate → HasText None certificate
+    (used : ℕ) (ending : ResumeEnding) → 1 ≤ p.period → IsResumed p base steps stopped used ending certificate → HasText None certificate
     → Gets (spelling None certificate) → WritesResumed p base steps stopped Gets
 writes {p} {certificate = certificate} used ending some resumed has_text gets = record {
   used = used;

@@ -5,7 +5,7 @@ use Rattle.std.specs.Io.KnownBytes.{Appends}
 use Rattle.pesp_problem.specs.Timetables.{Pesp}
 use Rattle.pesp_judges.specs.declared.refusal.Verdict.{Verdict}
 use Rattle.pesp_judges.specs.declared.refusal.Verdict.TheVariants.{Accepted}
-use Rattle.pesp_lemma.specs.Fronts.{IsValidBehind, Front as FrontOf}
+use Rattle.pesp_truth.specs.Certificates.{IsValid, Front as FrontOf}
 use Rattle.pesp_cert.specs.Fronted.{Fronted, IsFrontedText, fronted_text}
 use Rattle.pesp_cert_lines.specs.declared.versions.Versions.TheVariants.{All}
 use Rattle.pesp_check_run.specs.Checking.{Checks, ReadsInstance}
@@ -19,7 +19,7 @@ use Rattle.pesp_tasks.proofs.Joining.{accepts_written}
 
 -- a certificate that is valid for the instance of a text with its marked walks is accepted for it, where its text was appended
 accepts_fronted : (text before bytes : List ℕ) (left left_instance left_certificate old new : Option (List ℕ)) (period : ℕ)
-    (verdict : Verdict) (p : Pesp) (c : Fronted) → ReadsInstance (Some text) left period p → IsValidBehind c.front p c.content
+    (verdict : Verdict) (p : Pesp) (c : Fronted) → ReadsInstance (Some text) left period p → IsValid c.front p c.content
     → IsFrontedText (fronted_text c) c → Appends (Some before) (Some (before ++ bytes)) (fronted_text c)
     → Checks All (Some text) left_instance (Some bytes) left_certificate period verdict (Appends old new)
     → verdict ≡ Accepted

@@ -8,9 +8,9 @@ use Rattle.pesp_truth.specs.Certificates.{Content, shown_times}
 use Rattle.pesp_cert.specs.Texts.{spelling, HasText}
 use Rattle.pesp_cert.specs.declared.refusal.CertRefusal.{CertRefusal}
 use Rattle.pesp_cert.specs.declared.refusal.CertRefusal.TheVariants.{Memory as CertMemory}
-use Rattle.pesp_works.specs.Works.{WorkValue, spellings}
-use Rattle.pesp_works.specs.Refusals.{works_of_text}
-use Rattle.pesp_works.specs.Refusals as works_texts
+use Rattle.pesp_cert_items.specs.Works.{WorkValue, spellings}
+use Rattle.pesp_cert_items.specs.Refusals.{works_of_text}
+use Rattle.pesp_cert_items.specs.Refusals as works_texts
 use Rattle.pesp_worker.specs.declared.jobs.OpenJob.{OpenJob}
 use Rattle.pesp_worker.specs.declared.grafted.Reply.{Reply}
 use Rattle.pesp_worker.specs.Jobs.{AreOpenJobs}
@@ -40,8 +40,8 @@ work_fault NoSuchJob = NoJob
 -- ---- what is read
 
 -- the bytes that were read are the texts of these works, one behind the other
-abbrev pub ReadsWorks : Option (List ℕ) → Option (List ℕ) → List WorkValue → Type 0
-ReadsWorks told left works = ReadsNext told left (λ text. works_texts.IsTextOf text works)
+abbrev pub ReadsWorkTexts : Option (List ℕ) → Option (List ℕ) → List WorkValue → Type 0
+ReadsWorkTexts told left works = ReadsNext told left (λ text. works_texts.IsTextOfWorks text works)
 
 -- why there are no works
 abbrev pub WorksCause : Fault → Device → Type 0
@@ -107,7 +107,7 @@ pub record WritesGraft (p : Pesp) (base : Content) (works : List WorkValue) (Get
 
 -- the reader's text is that of works, which are grafted and written
 abbrev pub Grafts : Option (List ℕ) → Option (List ℕ) → Pesp → Content → (List ℕ → Type 0) → (List ℕ → Type 0) → Type 0
-Grafts told left p base Gets Tells = (works : List WorkValue) × ReadsWorks told left works × WritesGraft p base works Gets Tells
+Grafts told left p base Gets Tells = (works : List WorkValue) × ReadsWorkTexts told left works × WritesGraft p base works Gets Tells
 
 -- the writer or the reader wasn't called
 abbrev pub IsUncalled : Device → Type 0
@@ -132,5 +132,5 @@ GraftCause fault reader base_reader works_reader writer teller period uncalled w
     × ((BaseCause fault base_reader p × works_uncalled)
     ⊎ ((base : Content) × ReadsBase base_reader.old base_reader.new p base
     × (WorksCause fault works_reader
-    ⊎ ((works : List WorkValue) × ReadsWorks works_reader.old works_reader.new works
+    ⊎ ((works : List WorkValue) × ReadsWorkTexts works_reader.old works_reader.new works
     × OutCause fault (CutsGraft p base works writer teller))))))

@@ -14,10 +14,10 @@ reply_text (NotValid refusal) = codes "refused " ++ refusal_text refusal
 reply_text TooLarge = codes "too large"
 
 -- the line of the work of this number
-abbrev pub reply_line : ℕ → SharpReply → List ℕ
-reply_line number reply = codes "work " ++ decimal number ++ codes " " ++ reply_text reply ++ codes "\n"
+abbrev pub sharp_reply_line : ℕ → SharpReply → List ℕ
+sharp_reply_line number reply = codes "work " ++ decimal number ++ codes " " ++ reply_text reply ++ codes "\n"
 
 -- a line for each work, numbered on from this number
 abbrev pub lines_from : ℕ → List SharpReply → List ℕ
 lines_from number [] = []
-lines_from number (reply ∷ replies) = reply_line number reply ++ lines_from (number + 1) replies
+lines_from number (reply ∷ replies) = sharp_reply_line number reply ++ lines_from (number + 1) replies

@@ -2,12 +2,11 @@
 use Rattle.std.specs.Prelude.{ℕ, List, Option, None, Some}
 use Rattle.pesp_problem.specs.Timetables.{Pesp}
 use Rattle.pesp_truth.specs.Truth.{IsTrueAnswer}
-use Rattle.pesp_truth.specs.Certificates.{Content, shown_times}
-use Rattle.pesp_lemma.specs.Fronts.{Front as FrontOf}
+use Rattle.pesp_truth.specs.Certificates.{Content, shown_times, Front as FrontOf}
 use Rattle.pesp_cert.specs.Texts.{spelling, HasText}
 use Rattle.pesp_cert.specs.Fronted.{Fronted}
-use Rattle.pesp_resume.specs.declared.ending.Ending.{Ending}
-use Rattle.pesp_resume.specs.Resuming.{IsResumed}
+use Rattle.pesp_turns.specs.declared.resume_ending.ResumeEnding.{ResumeEnding}
+use Rattle.pesp_turns.specs.Resuming.{IsResumed}
 use Rattle.pesp_tasks.specs.SharpSolving.{WritesSharpResumed}
 
 -- the writer got what the relation says of the text of a certificate to which a search leads from the base, within so
@@ -15,7 +14,7 @@ use Rattle.pesp_tasks.specs.SharpSolving.{WritesSharpResumed}
 -- met, or it was stopped
 pub record WritesResumed (p : Pesp) (base : Content) (steps : ℕ) (stopped : Type 0) (Gets : List ℕ → Type 0) : Type 0 where
   pub used : ℕ
-  pub ending : Ending
+  pub ending : ResumeEnding
   pub certificate : Content
   pub resumed : IsResumed p base steps stopped used ending certificate
   pub is_true : IsTrueAnswer p certificate.answer (shown_times certificate)

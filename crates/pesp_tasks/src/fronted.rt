@@ -9,8 +9,8 @@ ghost use Rattle.pesp_runs.specs.Bases.{IsSharpBase};
 
 use pesp_cert::laws::limits_of_fronts_are_those_of_texts;
 use pesp_cert::{Front, Fronted};
-use pesp_lemma::laws::valid_behind_is_true;
 use pesp_problem::Instance;
+use pesp_truth::laws::valid_is_true;
 
 /// A front keeps its limits.
 fn keeps_limits(front: &Option<Front>)
@@ -28,7 +28,7 @@ pub fn vouch(instance: &Instance, fronted: &Fronted)
         (shown_times fronted.now.content) }
     ensures has_text { IsFrontedText (fronted_text fronted.now) fronted.now }
 {
-    valid_behind_is_true();
+    valid_is_true();
     instance.period();
     limits_of_fronts_are_those_of_texts();
     fronted.certificate.period();

@@ -1,6 +1,6 @@
 //! How good a certificate's answer is.
 
-use crate::gap_text::{GapText, Told};
+use crate::gap_text::{GapText, ToldGap};
 use pesp_cert::Fronted;
 use pesp_problem::Instance;
 use pesp_runs::{Fault, OnBase};
@@ -32,7 +32,7 @@ impl OnBase for Gap {
         base: Fronted,
         writer: &mut W,
     ) -> Result<(), Fault> {
-        let told = Told::of(&base);
+        let told = ToldGap::of(&base);
         drop(base);
         print_to(writer, &GapText(told))?;
         Ok(())

@@ -1,10 +1,9 @@
 //! How good a certificate's answer is, as JSON.
 
 ghost use Rattle.std.specs.Prelude.{◌≡◌};
-ghost use Rattle.pesp_truth.specs.Certificates.{least_of, cost_of};
 ghost use Rattle.pesp_tasks.specs.Gaps.{points_of};
 
-use crate::gap_text::{Number, Told};
+use crate::gap_text::{Number, ToldGap};
 use crate::savings::gap;
 use pesp_cert::Fronted;
 use pesp_problem::Instance;
@@ -20,12 +19,12 @@ pub struct GapJson;
 
 /// What kind of an answer it is, in a word.
 #[derive(Clone, Copy)]
-struct Kind(Answer);
+struct AnswerKind(Answer);
 
-impl Printed for Kind {
-    ghost use Rattle.pesp_tasks.specs.Gaps.{kind_of};
+impl Printed for AnswerKind {
+    ghost use Rattle.pesp_tasks.specs.Gaps.{answer_kind};
 
-    ghost text = { λ t. kind_of t.0 };
+    ghost text = { λ t. answer_kind t.0 };
 
     fn print<O: Output>(&self, out: &mut O) {
         match self.0 {
@@ -41,37 +40,15 @@ impl Printed for Kind {
 struct Amount(Option<u64>);
 
 impl Printed for Amount {
-    ghost use Rattle.pesp_tasks.specs.Gaps.{amount};
+    ghost use Rattle.pesp_tasks.specs.Gaps.{amount_text};
 
-    ghost text = { λ t. amount t.0 };
+    ghost text = { λ t. amount_text t.0 };
 
     fn print<O: Output>(&self, out: &mut O) {
         match self.0 {
             None => out.put(b"null"),
             Some(number) => Number(number).print(out),
         }
-    }
-}
-
-/// The bound of an answer; none where there is no timetable.
-fn least_of(answer: Answer) -> Option<u64>
-    ensures { result ≡ least_of answer }
-{
-    match answer {
-        Answer::Optimal(cost) => Some(cost),
-        Answer::Infeasible => None,
-        Answer::Bounded { least, .. } => Some(least),
-    }
-}
-
-/// The cost of an answer, where it has one.
-fn cost_of(answer: Answer) -> Option<u64>
-    ensures { result ≡ cost_of answer }
-{
-    match answer {
-        Answer::Optimal(cost) => Some(cost),
-        Answer::Infeasible => None,
-        Answer::Bounded { cost, .. } => cost,
     }
 }
 
@@ -92,7 +69,7 @@ fn points_of(answer: Answer) -> Option<u64>
 
 /// A certificate as an object on a line.
 #[derive(Clone, Copy)]
-struct GapObject(Told);
+struct GapObject(ToldGap);
 
 impl Printed for GapObject {
     ghost use Rattle.pesp_tasks.specs.Gaps.{gap_object};
@@ -103,10 +80,10 @@ impl Printed for GapObject {
         let told = self.0;
         let answer = told.answer;
         let (period, version) = (u64::from(told.period), u64::from(told.version));
-        let (bound, cost) = (Amount(least_of(answer)), Amount(cost_of(answer)));
+        let (bound, cost) = (Amount(answer.least()), Amount(answer.cost()));
         let points = Amount(points_of(answer));
         (
-            ("{\"answer\":\"", Kind(answer), "\",\"bound\":", bound),
+            ("{\"answer\":\"", AnswerKind(answer), "\",\"bound\":", bound),
             (
                 ",\"branches\":",
                 Number(told.branches as u64),
@@ -145,7 +122,7 @@ impl OnBase for GapJson {
         base: Fronted,
         writer: &mut W,
     ) -> Result<(), Fault> {
-        let told = Told::of(&base);
+        let told = ToldGap::of(&base);
         drop(base);
         print_to(writer, &GapObject(told))?;
         Ok(())

@@ -2,7 +2,7 @@
 
 ghost use Rattle.std.specs.Prelude.{◌≡◌};
 ghost use Rattle.pesp_stream.specs.Printing.{Sending, Sends};
-ghost use Rattle.pesp_tasks.specs.Gaps.{gap_words, gap_text, gap_line, gap_object, gap_json, version_of};
+ghost use Rattle.pesp_tasks.specs.Gaps.{gap_words, gap_text, gap_line, gap_object, gap_json, text_version};
 
 use crate::savings::gap;
 use itoa::Buffer;
@@ -68,9 +68,9 @@ fn print_gap<O: Output>(bound: u64, cost: u64, out: &mut O)
 struct AnswerWords(Answer);
 
 impl Printed for AnswerWords {
-    ghost use Rattle.pesp_tasks.specs.Gaps.{answer_words};
+    ghost use Rattle.pesp_tasks.specs.Gaps.{gap_answer_text};
 
-    ghost text = { λ t. answer_words t.0 };
+    ghost text = { λ t. gap_answer_text t.0 };
 
     fn print<O: Output>(&self, out: &mut O) {
         match self.0 {
@@ -89,21 +89,21 @@ impl Printed for AnswerWords {
 
 /// What is told of a certificate: its period, its answer, how many branches its tree has, and the version of its text.
 #[derive(Clone, Copy)]
-pub(crate) struct Told {
+pub(crate) struct ToldGap {
     pub(crate) period: u32,
     pub(crate) answer: Answer,
     pub(crate) branches: usize,
     pub(crate) version: u32,
 }
 
-impl Told {
+impl ToldGap {
     /// What is told of a certificate.
-    pub(crate) fn of(base: &Fronted) -> Told
+    pub(crate) fn of(base: &Fronted) -> ToldGap
         ensures line { gap_text result.period result.answer result.branches result.version ≡ gap_line base.now }
         ensures json { gap_object result.period result.answer result.branches result.version ≡ gap_json base.now }
     {
         let certificate = &base.certificate;
-        Told {
+        ToldGap {
             period: certificate.period(),
             answer: certificate.answer(),
             branches: certificate.tree().len() / 2,
@@ -114,7 +114,7 @@ impl Told {
 
 /// The version of a certificate's text.
 fn version_of(base: &Fronted) -> u32
-    ensures { result ≡ version_of base.now.front base.now.content.version }
+    ensures { result ≡ text_version base.now.front base.now.content.version }
 {
     match &base.front {
         None => base.certificate.version(),
@@ -124,7 +124,7 @@ fn version_of(base: &Fronted) -> u32
 
 /// A certificate in a line.
 #[derive(Clone, Copy)]
-pub(crate) struct GapText(pub(crate) Told);
+pub(crate) struct GapText(pub(crate) ToldGap);
 
 impl Printed for GapText {
     ghost use Rattle.pesp_tasks.specs.Gaps.{gap_text};

@@ -7,14 +7,14 @@ ghost use Rattle.pesp_truth.specs.Certificates.{IsValid};
 ghost use Rattle.pesp_check_run.specs.Devices.{over};
 ghost use Rattle.pesp_runs.specs.Reading.{HasBase};
 ghost use Rattle.pesp_runs.specs.Causes.{OutCause};
-ghost use Rattle.pesp_tasks.specs.Outside.{works_fault, ReadsWorks, WorksCause, WritesGraft, Grafts, GraftCause, CutsGraft};
+ghost use Rattle.pesp_tasks.specs.Outside.{works_fault, ReadsWorkTexts, WorksCause, WritesGraft, Grafts, GraftCause, CutsGraft};
 
 use pesp_cert::{CertRefusal, Certificate, print};
+use pesp_cert_items::{WorkText, parse_works};
 use pesp_problem::Instance;
 use pesp_runs::{Fault, MOST_TEXT, read_base, read_whole_instance};
 use pesp_stream::{Sink, Source, print_to, read_all};
 use pesp_worker::{RepliesText, graft};
-use pesp_works::{WorkText, parse_works};
 use std::alloc::Global;
 
 /// Why there are no works.
@@ -32,7 +32,7 @@ fn works_fault(refusal: CertRefusal) -> Fault
 fn read_works<R: Source>(alloc: Global, reader: &mut R) -> Result<Vec<WorkText>, Fault>
     requires fits { FewerThan (2 ^ 63) (R.calls reader.old) }
     ensures ok { IfOk result
-        (λ works. ReadsWorks (R.remaining reader.old) (R.remaining reader.new) works.items) }
+        (λ works. ReadsWorkTexts (R.remaining reader.old) (R.remaining reader.new) works.items) }
     ensures counts { OnOk result (HasWorked (R.calls reader.old) (R.calls reader.new)) }
     ensures counts_else { IfErr result (λ fault. fault ≢ Fault.Read → HasWorked (R.calls reader.old) (R.calls reader.new)) }
     ensures cause { IfErr result

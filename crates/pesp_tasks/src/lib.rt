@@ -32,4 +32,4 @@ pub use sharp_split::SplitSharp;
 pub use sharp_work::WorkSharp;
 pub use solve::Solve;
 pub use split::{Split, run_split};
-pub use work::Work;
+pub use work::WorkTask;

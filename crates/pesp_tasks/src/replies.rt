@@ -1,7 +1,7 @@
 //! What is told of works.
 
 ghost use Rattle.std.specs.Prelude.{◌≡◌, ◌++◌, OnOk, IfOk, string_bytes};
-ghost use Rattle.pesp_tasks.specs.Replies.{reply_line, lines_from};
+ghost use Rattle.pesp_tasks.specs.Replies.{sharp_reply_line, lines_from};
 
 use pesp_check_run::RefusalText;
 use pesp_problem::Memory;
@@ -35,7 +35,7 @@ impl fmt::Display for ReplyText {
 
 /// The line of a work, by its number.
 fn line_of(alloc: Global, number: u64, reply: SharpReply) -> Result<String, Memory>
-    ensures { IfOk result (λ line. string_bytes line ≡ reply_line number reply) }
+    ensures { IfOk result (λ line. string_bytes line ≡ sharp_reply_line number reply) }
 {
     let text = ReplyText(reply);
     Ok(format!(in alloc; "work {number} {text}\n")?)

@@ -11,10 +11,10 @@ ghost use Rattle.pesp_tasks.specs.Resuming.{WritesResumed};
 use crate::sharp_resume::write_sharply;
 use pesp_cert::{Certificate, Fronted, print};
 use pesp_problem::Instance;
-use pesp_resume::{Watcher, resume};
 use pesp_runs::{Fault, OnBase};
 use pesp_sharp_search::{SharpWatcher, Sharpener};
 use pesp_stream::Sink;
+use pesp_turns::{Watcher, resume};
 use std::alloc::Global;
 
 /// A search that goes on from a certificate by at most so many splits of open leaves, while a sharpener proposes and looks for times, as long as the

@@ -1,7 +1,7 @@
 //! The search for a best timetable.
 
 use pesp_cert::print;
-use pesp_finder::TimesFinder;
+use pesp_forest::TimesFinder;
 use pesp_problem::Instance;
 use pesp_runs::{Fault, Search};
 use pesp_search::{Observer, solve_from};

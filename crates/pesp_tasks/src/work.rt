@@ -8,26 +8,26 @@ ghost use Rattle.pesp_worker.specs.HandingIn.{AreWorksOn};
 ghost use Rattle.pesp_tasks.specs.Outside.{work_fault, JobCause};
 
 use pesp_cert::Certificate;
-use pesp_finder::TimesFinder;
+use pesp_cert_items::WorkText;
+use pesp_forest::TimesFinder;
 use pesp_problem::Instance;
 use pesp_runs::{Fault, OnBase};
 use pesp_stream::{Sink, print_to};
 use pesp_worker::{WorkRefusal, work_on_all};
-use pesp_works::WorkText;
 use std::alloc::Global;
 
 /// Work on the open leaves of these numbers, which rise, by at most so many splits in all of leaves below the bound, where one is
 /// named; a work for each is written, one behind the other. `NoJob` where no more leaves than one of the numbers are open. A finder
 /// looks for times where the certificate has none.
 #[derive(Drop)]
-pub struct Work<'a, F> {
+pub struct WorkTask<'a, F> {
     pub steps: u32,
     pub until: Option<u64>,
     pub jobs: &'a [u64],
     pub finder: F,
 }
 
-impl<F: TimesFinder> OnBase for Work<'_, F> {
+impl<F: TimesFinder> OnBase for WorkTask<'_, F> {
     ghost use Rattle.std.specs.Prelude.{◌≤◌, ◌⊎◌};
     ghost use Rattle.std.specs.List.Sorted.{IsStrictlyIncreasing};
     ghost use Rattle.pesp_problem.specs.declared.limits.TheConstants.{MOST_STEPS};
@@ -49,7 +49,7 @@ impl<F: TimesFinder> OnBase for Work<'_, F> {
         base: Certificate,
         writer: &mut W,
     ) -> Result<(), Fault> {
-        let Work {
+        let WorkTask {
             steps,
             until,
             jobs,

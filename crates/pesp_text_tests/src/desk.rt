@@ -7,7 +7,7 @@ use crate::devices::Device;
 use crate::drain::Drain;
 use crate::feed::Feed;
 use crate::given::{device_of, has_file, seconds_of, text_of};
-use crate::page::{Page, refused};
+use crate::page::{PageDevice, refused};
 use std::alloc::{Allocator, Global};
 use std::cell::{Cell, RefCell};
 use std::fmt::Display;
@@ -172,11 +172,11 @@ impl Clock for Desk<'_> {
 }
 
 impl Files for Desk<'_> {
-    type File = Page;
+    type File = PageDevice;
 
-    type Dir = Page;
+    type Dir = PageDevice;
 
-    fn open_file(&self, _how: &OpenOptions, path: &str) -> io::Result<Page> {
+    fn open_file(&self, _how: &OpenOptions, path: &str) -> io::Result<PageDevice> {
         if !has_file(self.lines, path) {
             return Err(Error::from(ErrorKind::NotFound));
         }
@@ -184,12 +184,12 @@ impl Files for Desk<'_> {
             return Err(Error::from(ErrorKind::OutOfMemory));
         };
         match device_of(self.alloc, self.lines, path) {
-            Some(device) => Ok(Page::new(text, device)),
+            Some(device) => Ok(PageDevice::new(text, device)),
             None => Err(Error::from(ErrorKind::Other)),
         }
     }
 
-    fn open_dir(&self, _path: &str) -> io::Result<Page> {
+    fn open_dir(&self, _path: &str) -> io::Result<PageDevice> {
         Err(refused())
     }
 

@@ -8,7 +8,7 @@ use std::io::{Error, ErrorKind, Read, Seek, SeekFrom, Write};
 
 /// Gives its bytes from a place on, as the device does; all else is refused.
 #[derive(Drop)]
-pub(crate) struct Page {
+pub(crate) struct PageDevice {
     text: Vec<u8>,
     at: usize,
     device: Device,
@@ -19,10 +19,10 @@ pub(crate) fn refused() -> Error {
     Error::from(ErrorKind::Unsupported)
 }
 
-impl Page {
+impl PageDevice {
     /// The file with this text, of which nothing is read.
-    pub(crate) fn new(text: Vec<u8>, device: Device) -> Page {
-        Page {
+    pub(crate) fn new(text: Vec<u8>, device: Device) -> PageDevice {
+        PageDevice {
             text,
             at: 0,
             device,
@@ -30,7 +30,7 @@ impl Page {
     }
 }
 
-impl Read for Page {
+impl Read for PageDevice {
     fn read(&mut self, buf: &mut [u8]) -> io::Result<usize> {
         if buf.is_empty() {
             return Ok(0);
@@ -44,7 +44,7 @@ impl Read for Page {
     }
 }
 
-impl Write for Page {
+impl Write for PageDevice {
     fn write(&mut self, _buf: &[u8]) -> io::Result<usize> {
         Err(refused())
     }
@@ -54,19 +54,19 @@ impl Write for Page {
     }
 }
 
-impl Seek for Page {
+impl Seek for PageDevice {
     fn seek(&mut self, _to: SeekFrom) -> io::Result<u64> {
         Err(refused())
     }
 }
 
-impl Lockable for Page {
+impl Lockable for PageDevice {
     fn take(&self) -> io::Result<bool> {
         Err(refused())
     }
 }
 
-impl OpenFile for Page {
+impl OpenFile for PageDevice {
     fn metadata(&self) -> io::Result<Metadata> {
         Err(refused())
     }

@@ -30,7 +30,7 @@ pub(crate) enum View {
 
 /// How a command line ends.
 #[derive(Drop)]
-struct End {
+struct CommandEnd {
     status: u8,
     pages: Pages,
 }
@@ -61,20 +61,26 @@ fn tell_pages(alloc: Global, status: u8, written: &[u8], told: &[u8]) -> Option<
 }
 
 /// How a command line ends over a standard input.
-fn run(alloc: Global, lines: &[&str], input: &[u8], device: Device, command: &str) -> Option<End> {
+fn run(
+    alloc: Global,
+    lines: &[&str],
+    input: &[u8],
+    device: Device,
+    command: &str,
+) -> Option<CommandEnd> {
     let words = words_with_name(alloc, command)?;
     let desk = Desk::new(alloc, lines, input, device)?;
     let sharpener = TreeSharpener::new(TimesSearch::new(alloc));
     let status = status_of_words(&desk, &words, sharpener);
-    Some(End {
+    Some(CommandEnd {
         status,
         pages: desk.pages(),
     })
 }
 
 /// An end with status 0, where this was written and nothing was told.
-fn begun(alloc: Global, written: Vec<u8>) -> End {
-    End {
+fn begun(alloc: Global, written: Vec<u8>) -> CommandEnd {
+    CommandEnd {
         status: 0,
         pages: Pages {
             written,
@@ -90,7 +96,7 @@ fn add_run(
     input: &[u8],
     device: Device,
     command: &str,
-    end: &mut End,
+    end: &mut CommandEnd,
 ) -> Option<()> {
     let next = run(alloc, lines, input, device, command)?;
     end.status = next.status;
@@ -109,7 +115,7 @@ fn run_stage(
     input: &[u8],
     device: Device,
     stage: &str,
-) -> Option<End> {
+) -> Option<CommandEnd> {
     let mut end = begun(alloc, Vec::new(alloc));
     for command in stage.split(" & ") {
         if end.status == 0 {
@@ -127,7 +133,7 @@ fn run_all(
     input: Vec<u8>,
     device: Device,
     stages: &str,
-) -> Option<End> {
+) -> Option<CommandEnd> {
     let mut end = begun(alloc, input);
     for stage in stages.split(" | ") {
         if end.status == 0 {
@@ -138,7 +144,7 @@ fn run_all(
 }
 
 /// What is told of an end.
-fn tell_end(alloc: Global, end: &End, view: View) -> Option<String> {
+fn tell_end(alloc: Global, end: &CommandEnd, view: View) -> Option<String> {
     let Pages { written, told } = &end.pages;
     match view {
         View::Status => format!(in alloc; "{}", end.status).ok(),

@@ -2,7 +2,7 @@
 
 use crate::given::text_of;
 use crate::pieces::bytes_of;
-use pesp_text::{Lines, Words, count_words, is_word, natural, whole};
+use pesp_stream::{Lines, Words, count_words, is_word, natural, whole};
 use std::alloc::Global;
 use std::fmt::Display;
 

@@ -5,8 +5,7 @@ use crate::drain::{Drain, drain_of};
 use crate::feed::feed_of;
 use crate::given::{device_of, text_of};
 use crate::programs::joined;
-use pesp_stream::{Bytes, print_to, read_all};
-use pesp_text::Lines;
+use pesp_stream::{Bytes, Lines, print_to, read_all};
 use std::alloc::Global;
 
 /// The bytes that are read of a text up to a limit.

@@ -1,7 +1,7 @@
 //! Works as they are read.
 
 use crate::given::text_of;
-use pesp_works::{WorkText, parse_works};
+use pesp_cert_items::{WorkText, parse_works};
 use std::alloc::Global;
 
 /// What becomes of a text of works: how many they are, with the parts of each, or the refusal.

@@ -1,13 +1,15 @@
 //! Balls: a connected part of the events is freed, and the rest moves as one cluster.
 
-use crate::search::Search;
+use crate::search::TimetableSearch;
 use crate::work::FEW;
 use pesp_annealing::Annealer;
 use pesp_network::Network;
 use pesp_problem::Memory;
-use pesp_timetables::{Clusters, Contraction, Found, Keys, Relaxation, ball_around, cost_of};
+use pesp_timetables::{
+    ClusterContraction, EventClusters, Found, Keys, Relaxation, ball_around, cost_of,
+};
 
-impl Search {
+impl TimetableSearch {
     /// The dearest of three rows that are drawn.
     fn dear_row(&mut self, found: &Found) -> Option<u32> {
         let rows = u64::try_from(found.slacks.len()).ok()?;
@@ -27,7 +29,7 @@ impl Search {
     }
 
     /// A ball around a dear row, of 20 to 60 of 100 rows.
-    fn ball(&mut self, found: &Found) -> Result<Option<Clusters>, Memory> {
+    fn ball(&mut self, found: &Found) -> Result<Option<EventClusters>, Memory> {
         let Some(place) = self.dear_row(found) else {
             return Ok(None);
         };
@@ -91,7 +93,7 @@ impl Search {
         let Some(clusters) = self.ball(found)? else {
             return Ok(());
         };
-        let made = Contraction::new(self.alloc, network, &found.slacks, &clusters)?;
+        let made = ClusterContraction::new(self.alloc, network, &found.slacks, &clusters)?;
         let Some(contraction) = made else {
             return Ok(());
         };

@@ -1,8 +1,8 @@
 //! Batches: individuals are merged by fours, and these with the best of before.
 
 use crate::pieces::Piece;
-use crate::search::Search;
-use crate::work::{FEW, MAY_END_EARLY, Work, is_close, is_near, may_join};
+use crate::search::TimetableSearch;
+use crate::work::{BatchWork, FEW, MAY_END_EARLY, is_close, is_near, may_join};
 use pesp_network::Network;
 use pesp_problem::Memory;
 use pesp_soft_times::SoftEffort;
@@ -17,13 +17,13 @@ const MOST_DOUBLED: u32 = 12;
 
 /// How a batch ended: with all fours, with one that costs what the cheapest timetable of before does, or as none would win.
 #[derive(Clone, Copy, PartialEq, Eq)]
-enum Ended {
+enum BatchEnd {
     Whole,
     Same,
     Worthless,
 }
 
-impl Search {
+impl TimetableSearch {
     /// Whether a batch that has begun is worth more of its pieces. With many rows most is won behind the last four.
     fn is_worth_more(&self, network: &Network) -> bool {
         network.rows().len() > FEW || self.is_worth_a_batch()
@@ -71,7 +71,7 @@ impl Search {
         }
         let steps = FIRST_STEPS << number.min(MOST_DOUBLED);
         let soft = Some(SoftEffort::after(rows, steps));
-        self.begin_batch(network, Work::after(rows, steps), soft)
+        self.begin_batch(network, BatchWork::after(rows, steps), soft)
     }
 
     /// Begins a batch of so much work: timetables that were met elsewhere are taken up first. Where it isn't worth its time it is
@@ -79,7 +79,7 @@ impl Search {
     pub(crate) fn begin_batch(
         &mut self,
         network: &Network,
-        work: Work,
+        work: BatchWork,
         soft: Option<SoftEffort>,
     ) -> Result<(), Memory> {
         self.pieces.begin(work, soft);
@@ -87,7 +87,7 @@ impl Search {
             self.pieces.met = replace(&mut self.waiting, Vec::new(self.alloc));
             self.next_met(network)?
         } else {
-            self.end_batch(network, Ended::Worthless)?
+            self.end_batch(network, BatchEnd::Worthless)?
         };
         Ok(())
     }
@@ -119,7 +119,7 @@ impl Search {
             return Ok(Piece::Softly(effort));
         }
         if !self.is_worth_more(network) {
-            return self.end_batch(network, Ended::Worthless);
+            return self.end_batch(network, BatchEnd::Worthless);
         }
         if fours >= self.most_fours() {
             return Ok(Piece::Join);
@@ -160,7 +160,7 @@ impl Search {
     pub(crate) fn end_merge(&mut self, network: &Network) -> Result<Piece, Memory> {
         let found = self.pieces.found.take();
         if self.pieces.is_joined {
-            return self.end_batch(network, Ended::Whole);
+            return self.end_batch(network, BatchEnd::Whole);
         }
         self.pieces.fours = self.pieces.fours.saturating_add(1);
         let Some(found) = found else {
@@ -169,7 +169,7 @@ impl Search {
         let is_same = self.pieces.before == Some(found.cost);
         self.pieces.tops.push(found)?;
         if is_same && network.rows().len() > MAY_END_EARLY {
-            self.end_batch(network, Ended::Same)
+            self.end_batch(network, BatchEnd::Same)
         } else {
             self.next_four(network)
         }
@@ -177,12 +177,12 @@ impl Search {
 
     /// What comes behind the fours: rounds of the search in which spans may be broken, if it goes with the batch. Where two fours
     /// came to one cost it begins first, where it hasn't, and goes on only where it is ahead.
-    fn end_batch(&mut self, network: &Network, ended: Ended) -> Result<Piece, Memory> {
+    fn end_batch(&mut self, network: &Network, ended: BatchEnd) -> Result<Piece, Memory> {
         self.pieces.tops.clear();
         let Some(effort) = self.pieces.soft else {
             return Ok(Piece::Nothing);
         };
-        if ended != Ended::Same {
+        if ended != BatchEnd::Same {
             return self.begin_rounds(network);
         }
         self.rest_long();

@@ -12,7 +12,7 @@ type Step = (u32, u64, u64, u32);
 
 /// An order that grows: the steps from what is in it, whether each event is in it, and the order.
 #[derive(Drop)]
-struct Growth<'a> {
+struct OrderGrowth<'a> {
     frame: &'a Frame,
     marks: &'a [u64],
     steps: BinaryHeap<Step>,
@@ -20,7 +20,7 @@ struct Growth<'a> {
     order: Vec<u32>,
 }
 
-impl Growth<'_> {
+impl OrderGrowth<'_> {
     /// The step along a row.
     fn step_along(&self, link: Link) -> Option<Step> {
         let row = self.frame.row(link.row)?;
@@ -68,7 +68,7 @@ fn grown_over(
     marks: &[u64],
     starts: &[u32],
 ) -> Result<Vec<u32>, AllocError> {
-    let mut growth = Growth {
+    let mut growth = OrderGrowth {
         frame,
         marks,
         steps: BinaryHeap::new(alloc),

@@ -1,7 +1,7 @@
 //! New timetables: dives of several kinds, and anneals behind them.
 
 use crate::kinds::Start;
-use crate::search::{Known, Search};
+use crate::search::{Prepared, TimetableSearch};
 use crate::work::{FEW, GREEDY, MOST_DIVED};
 use pesp_annealing::Annealer;
 use pesp_network::Network;
@@ -45,7 +45,7 @@ fn cheaper(one: Option<Annealer>, other: Annealer) -> Annealer {
     }
 }
 
-impl Search {
+impl TimetableSearch {
     /// A seed.
     pub(crate) fn seed(&mut self) -> u64 {
         self.random.next() >> 40
@@ -95,12 +95,12 @@ impl Search {
 
     /// Times that a dive finds without prices; it is made once.
     pub(crate) fn plain_times(&mut self, network: &Network) -> Result<Option<Vec<u32>>, Memory> {
-        if let Known::NotYet = self.plain {
+        if let Prepared::NotYet = self.plain {
             let tries = tries_for(network.rows().len());
-            self.plain = Known::Sought(dive(self.alloc, network, tries)?);
+            self.plain = Prepared::Sought(dive(self.alloc, network, tries)?);
         }
         match &self.plain {
-            Known::Sought(Some(times)) => Ok(Some(Vec::from_slice(self.alloc, times)?)),
+            Prepared::Sought(Some(times)) => Ok(Some(Vec::from_slice(self.alloc, times)?)),
             _ => Ok(None),
         }
     }
@@ -134,9 +134,9 @@ impl Search {
 
     /// The relaxation of the root, which is made once and to be put back; None where there is none.
     fn take_root(&mut self, network: &Network) -> Result<Option<Relaxation>, Memory> {
-        match mem::replace(&mut self.root, Known::NotYet) {
-            Known::Sought(found) => Ok(found),
-            Known::NotYet => {
+        match mem::replace(&mut self.root, Prepared::NotYet) {
+            Prepared::Sought(found) => Ok(found),
+            Prepared::NotYet => {
                 Ok(Relaxation::new(self.alloc, network, Keys::Plain, &mut self.random)?)
             }
         }
@@ -153,7 +153,7 @@ impl Search {
     /// The best of some dives of the root's relaxation, or an annealer from times near its prices.
     fn by_root(&mut self, network: &Network, start: Start) -> Result<Option<Annealer>, Memory> {
         let Some(mut root) = self.take_root(network)? else {
-            self.root = Known::Sought(None);
+            self.root = Prepared::Sought(None);
             return Ok(None);
         };
         let found = if start == Start::Relaxed {
@@ -161,7 +161,7 @@ impl Search {
         } else {
             self.near(network, &root)?
         };
-        self.root = Known::Sought(Some(root));
+        self.root = Prepared::Sought(Some(root));
         Ok(found)
     }
 

@@ -14,7 +14,7 @@ pub(crate) enum Start {
 
 /// A kind of individuals, how many there were, and what they cost together.
 #[derive(Clone, Copy)]
-struct Kind {
+struct IndividualKind {
     start: Start,
     count: u64,
     cost: u128,
@@ -23,7 +23,7 @@ struct Kind {
 /// All kinds, those that cost least in front, and how many fours there were.
 #[derive(Drop)]
 pub(crate) struct Kinds {
-    list: Vec<Kind>,
+    list: Vec<IndividualKind>,
     fours: u32,
 }
 
@@ -35,7 +35,7 @@ const ALL: [Start; 4] = [
     Start::Plain,
 ];
 
-impl Kind {
+impl IndividualKind {
     /// What an individual costs in the mean.
     fn mean(&self) -> u128 {
         self.cost / u128::from(self.count.max(1))
@@ -47,7 +47,7 @@ impl Kinds {
     pub(crate) fn new(alloc: Global) -> Result<Kinds, AllocError> {
         let mut list = Vec::new(alloc);
         for start in ALL {
-            list.push(Kind {
+            list.push(IndividualKind {
                 start,
                 count: 0,
                 cost: 0,

@@ -1,8 +1,8 @@
 //! The search for timetables of one network, by a copy of it.
 
 use crate::order::Ordered;
-use crate::search::Search;
-use pesp_finder::Effort;
+use crate::search::TimetableSearch;
+use pesp_forest::Effort;
 use pesp_network::Network;
 use pesp_problem::Memory;
 use std::alloc::Global;
@@ -13,14 +13,14 @@ use std::alloc::Global;
 pub(crate) struct Looking {
     alloc: Global,
     ordered: Ordered,
-    search: Search,
+    search: TimetableSearch,
 }
 
 impl Looking {
     /// A search that has found nothing yet.
     pub(crate) fn at(alloc: Global, network: &Network) -> Result<Looking, Memory> {
         let ordered = Ordered::of(alloc, network)?;
-        match Search::new(alloc, &ordered.network) {
+        match TimetableSearch::new(alloc, &ordered.network) {
             Ok(search) => Ok(Looking {
                 alloc,
                 ordered,

@@ -1,7 +1,7 @@
 //! Marks of events, whatever order they came in.
 
+use pesp_forest::Random;
 use pesp_network::{NetRow, Network};
-use pesp_search_tools::Random;
 use std::alloc::{AllocError, Global};
 
 /// How often each event is marked anew by the marks of those around it.

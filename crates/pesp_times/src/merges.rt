@@ -1,6 +1,6 @@
 //! Merges: what timetables have in common is contracted, and the rest is searched anew.
 
-use crate::search::Search;
+use crate::search::TimetableSearch;
 use crate::work::{MOST_DIVED, is_near};
 use pesp_annealing::Annealer;
 use pesp_network::Network;
@@ -18,7 +18,7 @@ fn count_near(rows: usize, pool: &[Found]) -> usize {
         .count()
 }
 
-impl Search {
+impl TimetableSearch {
     /// The heat at which an anneal between clusters begins.
     fn heat(&self) -> u64 {
         self.mean.saturating_mul(2).max(1)

@@ -3,9 +3,9 @@
 use crate::grown::grown;
 use crate::levels::{are_moved, levelled, levels_of, lowered, raised};
 use crate::marks::{mark, marks_of};
+use pesp_forest::guarded::number;
 use pesp_network::{NetRefusal, NetRow, Network};
 use pesp_problem::Memory;
-use pesp_search_tools::guarded::number;
 use std::alloc::{AllocError, Global};
 
 /// From how many rows on a network comes in one order: with fewer the best is found in any.

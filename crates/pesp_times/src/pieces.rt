@@ -1,8 +1,8 @@
 //! Batches piece by piece, so that others can look on in between.
 
 use crate::kinds::Start;
-use crate::search::Search;
-use crate::work::{A_BALL, A_MERGE, A_PAIR, A_ROUND, A_VISIT, Work};
+use crate::search::TimetableSearch;
+use crate::work::{A_BALL, A_MERGE, A_PAIR, A_ROUND, A_VISIT, BatchWork};
 use pesp_network::Network;
 use pesp_problem::Memory;
 use pesp_soft_times::SoftEffort;
@@ -37,7 +37,7 @@ pub(crate) enum Piece {
 #[derive(Drop)]
 pub(crate) struct Pieces {
     pub(crate) piece: Piece,
-    pub(crate) work: Work,
+    pub(crate) work: BatchWork,
     pub(crate) soft: Option<SoftEffort>,
     pub(crate) groups: Option<SoftEffort>,
     pub(crate) met: Vec<Found>,
@@ -60,7 +60,7 @@ impl Pieces {
     pub(crate) fn new(alloc: Global) -> Pieces {
         Pieces {
             piece: Piece::Nothing,
-            work: Work::first(0),
+            work: BatchWork::first(0),
             soft: None,
             groups: None,
             met: Vec::new(alloc),
@@ -90,7 +90,7 @@ impl Pieces {
     }
 
     /// Begins a batch of so much work, in the middle of which the search begins in which spans may be broken, where it is new.
-    pub(crate) fn begin(&mut self, work: Work, soft: Option<SoftEffort>) {
+    pub(crate) fn begin(&mut self, work: BatchWork, soft: Option<SoftEffort>) {
         self.work = work;
         self.soft = soft;
         self.groups = match soft {
@@ -132,7 +132,7 @@ impl Pieces {
     }
 }
 
-impl Search {
+impl TimetableSearch {
     /// Takes up a timetable that was met elsewhere and is near the cheapest one, annealed.
     fn take_up(&mut self, network: &Network) -> Result<Piece, Memory> {
         if let Some(met) = self.pieces.met.pop()

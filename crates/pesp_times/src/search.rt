@@ -2,12 +2,10 @@
 
 use crate::kinds::{Kinds, Start};
 use crate::pieces::Pieces;
-use crate::work::{FEW, Work, may_win};
-use pesp_finder::Effort;
-use pesp_forest::Frame;
+use crate::work::{BatchWork, FEW, may_win};
+use pesp_forest::{Effort, Frame, Random};
 use pesp_network::Network;
 use pesp_problem::Memory;
-use pesp_search_tools::Random;
 use pesp_soft_times::{SoftEffort, SoftSearch};
 use pesp_timetables::{Cheapest, Found, Relaxation, cheaper, reoptimised, slacks_of};
 use std::alloc::Global;
@@ -24,7 +22,7 @@ const MOST_WAITING: usize = 3;
 
 /// What is looked for once.
 #[derive(Drop)]
-pub(crate) enum Known<T> {
+pub(crate) enum Prepared<T> {
     NotYet,
     Sought(Option<T>),
 }
@@ -32,12 +30,12 @@ pub(crate) enum Known<T> {
 /// The search for timetables of one network: the cheapest of all batches, what later batches go on from, and the search in which
 /// spans may be broken.
 #[derive(Drop)]
-pub(crate) struct Search {
+pub(crate) struct TimetableSearch {
     pub(crate) alloc: Global,
     pub(crate) frame: Frame,
     pub(crate) random: Random,
-    pub(crate) root: Known<Relaxation>,
-    pub(crate) plain: Known<Vec<u32>>,
+    pub(crate) root: Prepared<Relaxation>,
+    pub(crate) plain: Prepared<Vec<u32>>,
     pub(crate) mean: u64,
     pub(crate) kinds: Kinds,
     pub(crate) waiting: Vec<Found>,
@@ -101,15 +99,15 @@ fn cheaper_times<'a>(
     }
 }
 
-impl Search {
+impl TimetableSearch {
     /// A search that has found nothing yet.
-    pub(crate) fn new(alloc: Global, network: &Network) -> Result<Search, Memory> {
-        Ok(Search {
+    pub(crate) fn new(alloc: Global, network: &Network) -> Result<TimetableSearch, Memory> {
+        Ok(TimetableSearch {
             alloc,
             frame: Frame::new(alloc, network)?,
             random: Random::new(1),
-            root: Known::NotYet,
-            plain: Known::NotYet,
+            root: Prepared::NotYet,
+            plain: Prepared::NotYet,
             mean: 0,
             kinds: Kinds::new(alloc)?,
             waiting: Vec::new(alloc),
@@ -138,7 +136,7 @@ impl Search {
 
     /// One timetable of a plain dive, annealed a little, of which the first batch knows nothing.
     fn begin_short(&mut self, network: &Network) -> Result<(), Memory> {
-        let mut short = Search::new(self.alloc, network)?;
+        let mut short = TimetableSearch::new(self.alloc, network)?;
         let found = short.individual(network, Start::Plain, SHORT_ROUNDS);
         swap(&mut self.plain, &mut short.plain);
         drop(short);
@@ -160,10 +158,10 @@ impl Search {
     }
 
     /// The work of the first batch; no timetable with spans held where it has less.
-    pub(crate) fn first_work(&self, network: &Network) -> Work {
-        let work = Work::first(network.rows().len());
+    pub(crate) fn first_work(&self, network: &Network) -> BatchWork {
+        let work = BatchWork::first(network.rows().len());
         if self.is_lighter(network) {
-            Work {
+            BatchWork {
                 fours: 0,
                 close: 0,
                 ..work
@@ -248,7 +246,7 @@ impl Search {
             return Ok(());
         }
         let before = self.least();
-        let effort = Work::after(network.rows().len(), steps);
+        let effort = BatchWork::after(network.rows().len(), steps);
         self.begin_batch(network, effort, None)?;
         self.end_pieces(network)?;
         let is_cheaper = self.least() != before;

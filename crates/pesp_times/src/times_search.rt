@@ -1,7 +1,7 @@
 //! The search for timetables, of one network after the other.
 
 use crate::looking::Looking;
-use pesp_finder::{Effort, TimesFinder};
+use pesp_forest::{Effort, TimesFinder};
 use pesp_network::Network;
 use pesp_problem::Memory;
 use std::alloc::Global;

@@ -5,7 +5,7 @@ use pesp_soft_times::{MANY_ROWS, may_merge};
 /// How many individuals, in fours, and how many fours while they are close to the search in which spans may be broken; how many
 /// fours come before that one; how many rounds an anneal has; and how many balls in turn may find nothing behind each merge.
 #[derive(Clone, Copy)]
-pub(crate) struct Work {
+pub(crate) struct BatchWork {
     pub(crate) fours: u32,
     pub(crate) close: u32,
     pub(crate) before_soft: u32,
@@ -45,9 +45,9 @@ pub(crate) fn is_near(rows: usize, cost: u64, least: u64) -> bool {
     rows > FEW || cost <= least.saturating_add(least / 32)
 }
 
-impl Work {
+impl BatchWork {
     /// The work before the first step.
-    pub(crate) fn first(rows: usize) -> Work {
+    pub(crate) fn first(rows: usize) -> BatchWork {
         let (fours, close, before_soft, rounds, balls) = match rows {
             0..=300 => (8, 8, 2, 20, 3),
             301..=400 => (3, 3, 2, 20, 3),
@@ -56,7 +56,7 @@ impl Work {
             2_501..=30_000 => (1, 1, 0, 8, 2),
             _ => (1, 1, 0, 6, 20),
         };
-        Work {
+        BatchWork {
             fours,
             close,
             before_soft,
@@ -66,9 +66,9 @@ impl Work {
     }
 
     /// The work after so many steps: little beside what the steps took, from a few thousand steps on.
-    pub(crate) fn after(rows: usize, steps: u32) -> Work {
+    pub(crate) fn after(rows: usize, steps: u32) -> BatchWork {
         let least = if rows > 2_500 { 15 } else { 3 };
-        Work {
+        BatchWork {
             fours: 1,
             close: 1,
             before_soft: 0,

@@ -6,7 +6,7 @@ use Rattle.json.specs.Token.{Token}
 use Rattle.json.specs.Json.{Json, array}
 use Rattle.json.specs.Tree.{json_tokens, items_tokens}
 use Rattle.json.specs.Written.{Written}
-use Rattle.pesp_timetable.specs.Objects.{Adds, items_of}
+use Rattle.pesp_timetable.specs.Objects.{Adds, json_items}
 
 -- nothing more, and more behind more
 pub adds-none : (a : Written) → Adds a a []
@@ -33,7 +33,7 @@ tokens-more {A} f items i d there =
     ∙ tokens-last (map f (take i items)) (f (get_or items i d))
 
 -- the tokens of all items, and the closing bracket
-pub items-are : (js : List Json) → items_tokens (items_of js) ≡ flat_map json_tokens js ++ Token.end_array ∷ []
+pub items-are : (js : List Json) → items_tokens (json_items js) ≡ flat_map json_tokens js ++ Token.end_array ∷ []
 items-are [] = refl
 items-are (j ∷ js) = ap (λ (l : List Token). json_tokens j ++ l) (items-are js)
     ∙ sym (append_assoc (json_tokens j) (flat_map json_tokens js) (Token.end_array ∷ []))
@@ -41,7 +41,7 @@ items-are (j ∷ js) = ap (λ (l : List Token). json_tokens j ++ l) (items-are j
 -- the tokens of an array, from no token on
 pub array-is : (a b : Written) (js : List Json) → a.tokens ≡ []
     → Adds a b (Token.begin_array ∷ (flat_map json_tokens js ++ Token.end_array ∷ []))
-    → b.tokens ≡ json_tokens (array (items_of js))
+    → b.tokens ≡ json_tokens (array (json_items js))
 array-is a b js none f =
     f.tokens ∙ ap (λ (l : List Token). l ++ Token.begin_array ∷ (flat_map json_tokens js ++ Token.end_array ∷ [])) none
     ∙ ap (λ (l : List Token). Token.begin_array ∷ l) (sym (items-are js))

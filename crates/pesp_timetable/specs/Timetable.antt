@@ -34,9 +34,9 @@ laps_of None = 0
 laps_of (Some told) = told.step.laps
 
 -- its line, its station, its name and its changes, as bytes
-abbrev pub line_of : Option Told → List ℕ
-line_of None = []
-line_of (Some told) = string_bytes told.line
+abbrev pub told_line : Option Told → List ℕ
+told_line None = []
+told_line (Some told) = string_bytes told.line
 
 -- the station of an event, empty where none is told
 abbrev pub station_of : Option Told → List ℕ
@@ -44,9 +44,9 @@ station_of None = []
 station_of (Some told) = string_bytes told.station
 
 -- the name of an event, empty where none is told
-abbrev pub name_of : Option Told → List ℕ
-name_of None = []
-name_of (Some told) = string_bytes told.name
+abbrev pub told_name : Option Told → List ℕ
+told_name None = []
+told_name (Some told) = string_bytes told.name
 
 -- the changes at an event, empty where none are told
 abbrev pub changes_of : Option Told → List ℕ
@@ -72,9 +72,9 @@ kind_word Pass = codes "pass"
 kind_word Other = []
 
 -- what the train of an event does there, empty where nothing is told
-abbrev pub kind_of : Option Told → List ℕ
-kind_of None = []
-kind_of (Some told) = kind_word told.step.halt
+abbrev pub told_kind : Option Told → List ℕ
+told_kind None = []
+told_kind (Some told) = kind_word told.step.halt
 
 -- ---- the records
 
@@ -94,8 +94,8 @@ abbrev pub entries_of : Pesp → List ℕ → List Told → List Entry
 entries_of p times tolds = map (entry_of p times tolds) (enumerate_from 0 p.events)
 
 -- the event of the earlier way goes first, and along a way that of the earlier stop
-abbrev pub goes_before : Entry → Entry → Bool
-goes_before x y = nat_lt x.way y.way || ((x.way == y.way) && nat_lt x.stop y.stop)
+abbrev pub entry_goes_before : Entry → Entry → Bool
+entry_goes_before x y = nat_lt x.way y.way || ((x.way == y.way) && nat_lt x.stop y.stop)
 
 -- the fields of the header and of an event
 abbrev pub timetable_header : List (List ℕ)
@@ -106,8 +106,8 @@ timetable_header =
 -- the fields of an event, by what is told of it
 abbrev pub told_fields : Option Told → Entry → List ℕ → List (List ℕ)
 told_fields told e clock =
-    decimal e.way ∷ line_of told ∷ direction_of told ∷ decimal e.stop ∷ station_of told ∷ kind_of told ∷ signed_decimal e.label
-    ∷ name_of told ∷ decimal e.time ∷ clock ∷ changes_of told ∷ []
+    decimal e.way ∷ told_line told ∷ direction_of told ∷ decimal e.stop ∷ station_of told ∷ told_kind told ∷ signed_decimal e.label
+    ∷ told_name told ∷ decimal e.time ∷ clock ∷ changes_of told ∷ []
 
 -- the fields of an event, its running time told as hours and minutes
 abbrev pub entry_fields : List Told → Entry → List (List ℕ)

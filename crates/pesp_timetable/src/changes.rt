@@ -2,13 +2,13 @@
 
 use crate::told::Told;
 use pesp_problem::{Instance, Row};
-use pesp_railway::{Direction, Network, duration_of, is_change};
+use pesp_railway::{Direction, RailwayNetwork, duration_of, is_change};
 use std::alloc::AllocError;
 use std::fmt;
 
 /// A change as it is told at one of its ends: to or from which line, in which direction, at which time, and how long it lasts.
 #[derive(Clone, Copy)]
-struct Change<'a> {
+struct Transfer<'a> {
     word: &'a str,
     line: &'a str,
     direction: Direction,
@@ -16,9 +16,9 @@ struct Change<'a> {
     lasts: i64,
 }
 
-impl fmt::Display for Change<'_> {
+impl fmt::Display for Transfer<'_> {
     fn fmt<W: fmt::Write>(&self, f: &mut fmt::Formatter<W>) -> fmt::Result {
-        let Change {
+        let Transfer {
             word,
             line,
             direction,
@@ -45,12 +45,12 @@ fn direction_at(tolds: &[Told], event: u32) -> Direction {
 fn change_at<'a>(
     tolds: &[Told],
     times: &[u32],
-    network: &Network<'a>,
+    network: &RailwayNetwork<'a>,
     word: &'a str,
     other: u32,
     lasts: i64,
-) -> Option<Change<'a>> {
-    Some(Change {
+) -> Option<Transfer<'a>> {
+    Some(Transfer {
         word,
         line: network.line_of_event(other),
         direction: direction_at(tolds, other),
@@ -63,7 +63,7 @@ fn change_at<'a>(
 fn add_change(
     tolds: &mut [Told],
     event: u32,
-    change: Option<Change<'_>>,
+    change: Option<Transfer<'_>>,
 ) -> Result<(), AllocError> {
     let (Some(told), Some(change)) = (tolds.get_mut(event as usize), change) else {
         return Ok(());
@@ -79,7 +79,7 @@ fn add_row(
     tolds: &mut [Told],
     instance: &Instance,
     times: &[u32],
-    network: &Network<'_>,
+    network: &RailwayNetwork<'_>,
     row: &Row,
 ) -> Result<(), AllocError> {
     let Some(lasts) = duration_of(instance, times, row) else {
@@ -99,7 +99,7 @@ pub fn add_changes(
     tolds: &mut [Told],
     instance: &Instance,
     times: &[u32],
-    network: &Network<'_>,
+    network: &RailwayNetwork<'_>,
 ) -> Result<(), AllocError> {
     for row in instance.rows() {
         add_row(tolds, instance, times, network, row)?;

@@ -4,7 +4,7 @@ ghost use Rattle.std.specs.Prelude.{◌≡◌, option_copied, slice_get};
 
 use crate::changes::add_changes;
 use pesp_problem::Instance;
-use pesp_railway::{Network, Step, steps_of};
+use pesp_railway::{RailwayNetwork, WayEvent, steps_of};
 use pesp_report::{Name, Names};
 use std::alloc::{AllocError, Global};
 
@@ -12,7 +12,7 @@ use std::alloc::{AllocError, Global};
 /// isn't told, and the changes there.
 #[derive(Drop)]
 pub struct Told {
-    pub step: Step,
+    pub step: WayEvent,
     pub name: String,
     pub line: String,
     pub station: String,
@@ -27,7 +27,7 @@ pub(crate) fn told_at(tolds: &[Told], event: usize) -> Option<&Told>
 }
 
 /// What is told of an event, without its changes.
-fn told_of(alloc: Global, step: Step, name: Option<&Name>) -> Result<Told, AllocError> {
+fn told_of(alloc: Global, step: WayEvent, name: Option<&Name>) -> Result<Told, AllocError> {
     let (event, line, station) = match name {
         Some(name) => (
             name.name.as_str(),
@@ -49,7 +49,7 @@ fn told_of(alloc: Global, step: Step, name: Option<&Name>) -> Result<Told, Alloc
 fn told_at_steps(
     alloc: Global,
     instance: &Instance,
-    steps: &[Step],
+    steps: &[WayEvent],
     names: Option<&Names>,
 ) -> Result<Vec<Told>, AllocError> {
     let mut tolds = Vec::new(alloc);
@@ -74,7 +74,7 @@ pub fn told_of_events(
         let steps = steps_of(alloc, instance, times, None)?;
         return told_at_steps(alloc, instance, &steps, None);
     };
-    let network = Network::of(alloc, instance, names)?;
+    let network = RailwayNetwork::of(alloc, instance, names)?;
     let steps = steps_of(alloc, instance, times, Some(&network))?;
     let mut tolds = told_at_steps(alloc, instance, &steps, Some(names))?;
     add_changes(&mut tolds, instance, times, &network)?;

@@ -12,7 +12,7 @@ use std::alloc::Global;
 
 /// The line of an event.
 pub fn line_of(told: Option<&Told>) -> &str
-    ensures { result.now ≡ spec.line_of (option_copied told.entry) }
+    ensures { result.now ≡ spec.told_line (option_copied told.entry) }
 {
     match told {
         Some(told) => told.line.as_str(),
@@ -32,7 +32,7 @@ pub fn station_of(told: Option<&Told>) -> &str
 
 /// The name of an event.
 pub fn name_of(told: Option<&Told>) -> &str
-    ensures { result.now ≡ spec.name_of (option_copied told.entry) }
+    ensures { result.now ≡ spec.told_name (option_copied told.entry) }
 {
     match told {
         Some(told) => told.name.as_str(),
@@ -66,7 +66,7 @@ pub fn direction_of(told: Option<&Told>) -> &str
 
 /// The word for what a train does at an event.
 pub fn kind_of(told: Option<&Told>) -> &str
-    ensures { result.now ≡ spec.kind_of (option_copied told.entry) }
+    ensures { result.now ≡ spec.told_kind (option_copied told.entry) }
 {
     let Some(told) = told else {
         return "";

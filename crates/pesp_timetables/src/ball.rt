@@ -1,9 +1,8 @@
 //! Balls: a connected part of the events is freed, and the rest moves as one cluster.
 
-use crate::clusters::Clusters;
-use pesp_forest::Frame;
-use pesp_search_tools::Random;
-use pesp_search_tools::guarded::set_number;
+use crate::clusters::EventClusters;
+use pesp_forest::guarded::set_number;
+use pesp_forest::{Frame, Random};
 use std::alloc::{AllocError, Global};
 
 /// Among how many events that wait the next one is drawn.
@@ -12,7 +11,7 @@ const DRAWN_FROM: usize = 6;
 /// A ball as it grows: the events that wait, from the next one on, which events and rows were met, and how many rows.
 #[derive(Drop)]
 struct Ball {
-    clusters: Clusters,
+    clusters: EventClusters,
     waiting: Vec<u32>,
     next: usize,
     is_met: Vec<bool>,
@@ -25,7 +24,7 @@ impl Ball {
     fn new(alloc: Global, frame: &Frame) -> Result<Ball, AllocError> {
         let events = frame.events();
         Ok(Ball {
-            clusters: Clusters {
+            clusters: EventClusters {
                 of: vec![in alloc; 0u32; events]?,
                 count: 1,
             },
@@ -117,7 +116,7 @@ pub fn ball_around(
     ends: (u32, u32),
     rows: u64,
     random: &mut Random,
-) -> Result<Clusters, AllocError> {
+) -> Result<EventClusters, AllocError> {
     let mut ball = Ball::new(alloc, frame)?;
     ball.fill(frame, ends, rows, random)?;
     Ok(ball.clusters)

@@ -7,7 +7,7 @@ use std::alloc::Global;
 
 /// The times of a timetable, its slacks, and what it costs.
 #[derive(Drop)]
-struct Best {
+struct BestSlacks {
     times: Vec<u32>,
     found: Found,
 }
@@ -15,7 +15,7 @@ struct Best {
 /// The cheapest timetable that was met, where there is one.
 #[derive(Drop)]
 pub struct Cheapest {
-    best: Option<Best>,
+    best: Option<BestSlacks>,
 }
 
 impl Cheapest {
@@ -58,7 +58,7 @@ impl Cheapest {
         };
         if network.is_timetable(&times) && network.cost_of(&times) == found.cost {
             let found = found.copy(alloc)?;
-            self.best = Some(Best { times, found });
+            self.best = Some(BestSlacks { times, found });
         }
         Ok(())
     }

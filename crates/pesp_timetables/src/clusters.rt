@@ -1,13 +1,13 @@
 //! Clusters of events that are moved together.
 
+use pesp_forest::Groups;
+use pesp_forest::guarded::{number, set_number};
 use pesp_network::Network;
-use pesp_search_tools::Groups;
-use pesp_search_tools::guarded::{number, set_number};
 use std::alloc::{AllocError, Global};
 
 /// The cluster of each event, from 0, and how many clusters there are.
 #[derive(Drop)]
-pub struct Clusters {
+pub struct EventClusters {
     pub(crate) of: Vec<u32>,
     pub(crate) count: u32,
 }
@@ -15,10 +15,10 @@ pub struct Clusters {
 /// No cluster yet.
 const NONE: u32 = u32::MAX;
 
-impl Clusters {
+impl EventClusters {
     /// Each event by itself.
-    pub(crate) fn apart(alloc: Global, events: u32) -> Result<Clusters, AllocError> {
-        Ok(Clusters {
+    pub(crate) fn apart(alloc: Global, events: u32) -> Result<EventClusters, AllocError> {
+        Ok(EventClusters {
             of: (0..events).collect(alloc)?,
             count: events,
         })
@@ -37,9 +37,13 @@ impl Clusters {
     }
 
     /// Events of a group in one cluster.
-    fn of_groups(alloc: Global, groups: &mut Groups, events: u32) -> Result<Clusters, AllocError> {
+    fn of_groups(
+        alloc: Global,
+        groups: &mut Groups,
+        events: u32,
+    ) -> Result<EventClusters, AllocError> {
         let mut numbers = vec![in alloc; NONE; events as usize]?;
-        let mut clusters = Clusters {
+        let mut clusters = EventClusters {
             of: Vec::with_capacity(alloc, events as usize)?,
             count: 0,
         };
@@ -66,12 +70,12 @@ pub(crate) fn common_clusters(
     alloc: Global,
     network: &Network,
     pool: &[&[u32]],
-) -> Result<Clusters, AllocError> {
+) -> Result<EventClusters, AllocError> {
     let mut groups = Groups::apart(alloc, network.events())?;
     for (place, row) in network.rows().iter().enumerate() {
         if is_common(pool, place) {
             groups.join(row.tail, row.head);
         }
     }
-    Clusters::of_groups(alloc, &mut groups, network.events())
+    EventClusters::of_groups(alloc, &mut groups, network.events())
 }

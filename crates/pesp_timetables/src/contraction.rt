@@ -1,22 +1,22 @@
 //! Networks between clusters of events.
 
-use crate::clusters::Clusters;
+use crate::clusters::EventClusters;
+use pesp_forest::guarded::number;
 use pesp_network::{NetRefusal, NetRow, Network};
 use pesp_problem::Memory;
-use pesp_search_tools::guarded::number;
 use std::alloc::{AllocError, Global};
 
 /// A network between clusters, in which the times that are 0 for each cluster give the slacks of a timetable; the rows of the
 /// whole network that its rows stand for; and what that timetable costs in them.
 #[derive(Drop)]
-pub struct Contraction {
+pub struct ClusterContraction {
     pub network: Network,
     pub cost: u64,
     rows: Vec<u32>,
 }
 
 /// A row between its clusters, with a slack of a timetable; None where both ends are in one.
-fn row_between(row: &NetRow, clusters: &Clusters, slack: u32) -> Option<NetRow> {
+fn row_between(row: &NetRow, clusters: &EventClusters, slack: u32) -> Option<NetRow> {
     let tail = number(&clusters.of, row.tail)?;
     let head = number(&clusters.of, row.head)?;
     if tail == head {
@@ -30,14 +30,14 @@ fn row_between(row: &NetRow, clusters: &Clusters, slack: u32) -> Option<NetRow> 
     })
 }
 
-impl Contraction {
+impl ClusterContraction {
     /// The network between clusters by a timetable's slacks.
     pub fn new(
         alloc: Global,
         network: &Network,
         slacks: &[u32],
-        clusters: &Clusters,
-    ) -> Result<Option<Contraction>, Memory> {
+        clusters: &EventClusters,
+    ) -> Result<Option<ClusterContraction>, Memory> {
         let mut between = Vec::new(alloc);
         let mut rows = Vec::new(alloc);
         let mut cost = 0u64;
@@ -50,7 +50,7 @@ impl Contraction {
             }
         }
         match Network::new(alloc, network.period(), clusters.count, between) {
-            Ok(network) => Ok(Some(Contraction {
+            Ok(network) => Ok(Some(ClusterContraction {
                 network,
                 cost,
                 rows,

@@ -3,11 +3,11 @@
 use crate::forests::Keyed;
 use crate::found::times_at;
 use crate::relaxation::Relaxation;
+use pesp_forest::Random;
 use pesp_network::Network;
 use pesp_problem::Memory;
 use pesp_propagate::dive_to;
-use pesp_relaxation::{Ended, MOST_PIVOTS, Slopes};
-use pesp_search_tools::Random;
+use pesp_relaxation::{MOST_PIVOTS, PivotEnd, Slopes};
 use std::alloc::{AllocError, Global};
 
 /// How many tries a dive to the prices has.
@@ -107,7 +107,7 @@ impl Relaxation {
     fn take_side(&mut self, row: u32, side: Slopes) -> Option<bool> {
         let before = self.dived.slopes(row)?;
         self.dived.change_slopes(&self.frame, row, side)?;
-        if self.dived.approach(&self.frame, MOST_PIVOTS) == Ended::Best {
+        if self.dived.approach(&self.frame, MOST_PIVOTS) == PivotEnd::Best {
             return Some(true);
         }
         self.dived.change_slopes(&self.frame, row, before)?;

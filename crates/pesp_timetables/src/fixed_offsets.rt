@@ -1,13 +1,13 @@
 //! The cheapest times with the offsets of a timetable: the dual of a cheapest flow.
 
-use crate::clusters::Clusters;
-use crate::contraction::Contraction;
+use crate::clusters::EventClusters;
+use crate::contraction::ClusterContraction;
 use crate::forests::{Keyed, least_rows};
 use crate::found::{Found, slacks_of, times_at};
-use pesp_forest::{Cycles, Forest, Frame};
+use pesp_forest::{Cycles, Frame, RowForest};
 use pesp_network::Network;
 use pesp_problem::Memory;
-use pesp_relaxation::{Basis, Ended, root_slacks, settle};
+use pesp_relaxation::{Basis, PivotEnd, root_slacks, settle};
 use std::alloc::{AllocError, Global};
 
 /// Up to how many rows a timetable is worth being made cheaper under its offsets.
@@ -37,20 +37,24 @@ fn forest_of(
     network: &Network,
     frame: &Frame,
     slacks: &[u32],
-) -> Result<Option<Forest>, AllocError> {
+) -> Result<Option<RowForest>, AllocError> {
     let mut list = keyed_by_slack(alloc, network, slacks)?;
     let numbers = least_rows(alloc, frame, &mut list)?;
-    Forest::new(alloc, frame, &numbers)
+    RowForest::new(alloc, frame, &numbers)
 }
 
 /// The best prices of a network in which each cycle has the offset 0.
-fn best_prices(alloc: Global, frame: &Frame, forest: Forest) -> Result<Option<Basis>, AllocError> {
+fn best_prices(
+    alloc: Global,
+    frame: &Frame,
+    forest: RowForest,
+) -> Result<Option<Basis>, AllocError> {
     let cycles = Cycles::new(alloc, forest)?;
     let slacks = root_slacks(alloc, frame)?;
     let offsets = vec![in alloc; (0i64, 0i64); cycles.count()]?;
     let mut basis = Basis::idle(alloc, frame)?;
     let ended = settle(alloc, frame, &cycles, &mut basis, &slacks, &offsets, &[])?;
-    if ended != Some(Ended::Best) {
+    if ended != Some(PivotEnd::Best) {
         return Ok(None);
     }
     Ok(Some(basis))
@@ -61,7 +65,7 @@ fn times_in(
     alloc: Global,
     network: &Network,
     slacks: &[u32],
-    moved: &Contraction,
+    moved: &ClusterContraction,
     frame: &Frame,
 ) -> Result<Option<Vec<u32>>, Memory> {
     let taken = moved.taken_from(alloc, slacks)?;
@@ -81,7 +85,7 @@ fn times_over(
     alloc: Global,
     network: &Network,
     slacks: &[u32],
-    moved: &Contraction,
+    moved: &ClusterContraction,
 ) -> Result<Option<Vec<u32>>, Memory> {
     let frame = Frame::new(alloc, &moved.network)?;
     let times = times_in(alloc, network, slacks, moved, &frame);
@@ -94,7 +98,7 @@ fn found_over(
     alloc: Global,
     network: &Network,
     slacks: &[u32],
-    moved: &Contraction,
+    moved: &ClusterContraction,
 ) -> Result<Option<Found>, Memory> {
     let Some(times) = times_over(alloc, network, slacks, moved)? else {
         return Ok(None);
@@ -111,8 +115,8 @@ pub fn reoptimised(
     network: &Network,
     slacks: &[u32],
 ) -> Result<Option<Found>, Memory> {
-    let clusters = Clusters::apart(alloc, network.events())?;
-    let made = Contraction::new(alloc, network, slacks, &clusters);
+    let clusters = EventClusters::apart(alloc, network.events())?;
+    let made = ClusterContraction::new(alloc, network, slacks, &clusters);
     drop(clusters);
     let Some(moved) = made? else {
         return Ok(None);

@@ -1,8 +1,7 @@
 //! Forests of rows of small keys (Kruskal 1956).
 
-use pesp_forest::Frame;
+use pesp_forest::{Frame, Groups, Random};
 use pesp_network::NetRow;
-use pesp_search_tools::{Groups, Random};
 use std::alloc::{AllocError, Global};
 
 /// A row with a key by which rows are taken.

@@ -16,8 +16,8 @@ mod relaxation;
 
 pub use ball::ball_around;
 pub use cheapest::Cheapest;
-pub use clusters::Clusters;
-pub use contraction::Contraction;
+pub use clusters::EventClusters;
+pub use contraction::ClusterContraction;
 pub use fixed_offsets::{MOST_REOPTIMISED, reoptimised};
 pub use forests::Keys;
 pub use found::{Found, cheaper, cost_of, slacks_of, times_of};

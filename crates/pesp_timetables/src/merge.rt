@@ -1,7 +1,7 @@
 //! Merges: what timetables have in common is contracted.
 
-use crate::clusters::{Clusters, common_clusters};
-use crate::contraction::Contraction;
+use crate::clusters::{EventClusters, common_clusters};
+use crate::contraction::ClusterContraction;
 use crate::found::{Found, cost_of};
 use pesp_network::Network;
 use pesp_problem::Memory;
@@ -10,13 +10,13 @@ use std::alloc::Global;
 /// A merge: the network between clusters, its cheapest slacks so far, and what they cost.
 #[derive(Drop)]
 pub struct Merge {
-    pub contraction: Contraction,
+    pub contraction: ClusterContraction,
     pub slacks: Vec<u32>,
     cost: u64,
 }
 
 /// The clusters of what timetables have in common.
-fn clusters_of(alloc: Global, network: &Network, pool: &[Found]) -> Result<Clusters, Memory> {
+fn clusters_of(alloc: Global, network: &Network, pool: &[Found]) -> Result<EventClusters, Memory> {
     let mut slacks = Vec::with_capacity(alloc, pool.len())?;
     for found in pool {
         slacks.push(found.slacks.as_slice())?;
@@ -34,7 +34,7 @@ impl Merge {
         if clusters.count <= 1 {
             return Ok(None);
         }
-        let made = Contraction::new(alloc, network, &first.slacks, &clusters)?;
+        let made = ClusterContraction::new(alloc, network, &first.slacks, &clusters)?;
         let Some(contraction) = made else {
             return Ok(None);
         };

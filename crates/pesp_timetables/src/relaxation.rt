@@ -1,10 +1,9 @@
 //! The relaxation of a network's root.
 
 use crate::forests::{Keys, light_forest};
-use pesp_forest::Frame;
+use pesp_forest::{Frame, Random};
 use pesp_network::Network;
 use pesp_relaxation::{Basis, Root};
-use pesp_search_tools::Random;
 use std::alloc::{AllocError, Global};
 
 /// A network with a forest, the offsets that this leaves to each cycle, the best basis of the root, that of a dive, and

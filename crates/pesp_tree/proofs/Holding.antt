@@ -14,7 +14,7 @@ use Rattle.pesp_truth.specs.Leaves.{IsLeafAt, put}
 use Rattle.pesp_truth.proofs.Leaves.{lines_after_put}
 use Rattle.pesp_tree.specs.Leaves.{leaf_of}
 use Rattle.pesp_tree.specs.WorkTrees.{IsWhole, with_leaf, with_branch}
-use Rattle.pesp_tree.specs.Numbered.{IsAt, path_in, branch_off, grown, kept_leaf, leaf_or_gap, leaf_in, tree_of, value_of, AreNodes, AreNumbered, AreKept, Stands, after_split}
+use Rattle.pesp_tree.specs.Numbered.{IsAt, path_in, branch_off, grown, kept_leaf, leaf_or_gap, leaf_in, tree_of, value_of, AreNodes, NodesAreNumbered, TreeListsAreKept, Stands, after_split}
 use Rattle.pesp_tree.proofs.Numbered.{filled_at, filled_from, one_at}
 use Rattle.pesp_tree.proofs.Changes.{grow-push, set_nodes, set_tree, split_nodes, split_tree}
 use Rattle.pesp_tree.proofs.Paths.{below_push, grown_count}
@@ -42,7 +42,7 @@ one_node bs leaves m n nodes h k e = one_at (grown bs).tree (path_in (grown bs) 
     (subst (λ path. IsAt (grown bs).tree path m) e (nodes.stands m (in_range leaves m h) h))
     (nodes.stands n (in_range leaves n k) k)
 
-pub whole : (bs : List Branching) (kept : List Kept) (room : ℕ) → AreNumbered bs kept → IsWhole (value_of bs kept room)
+pub whole : (bs : List Branching) (kept : List Kept) (room : ℕ) → NodesAreNumbered bs kept → IsWhole (value_of bs kept room)
 whole bs kept room a =
     let leaves = map kept_leaf kept in
     record {
@@ -55,10 +55,10 @@ whole bs kept room a =
       one = λ m n h k e. one_node bs leaves m n a.nodes (not_none (get_or leaves m None) h) (not_none (get_or leaves n None) k) e;
     }
 
-pub count_is : (bs : List Branching) (kept : List Kept) → AreNumbered bs kept → length kept ≡ 1 + 2 * length bs
+pub count_is : (bs : List Branching) (kept : List Kept) → NodesAreNumbered bs kept → length kept ≡ 1 + 2 * length bs
 count_is bs kept a = sym (length_leaves kept) ∙ sym (a.nodes.count) ∙ grown_count bs
 
-pub few_branchings : (bs : List Branching) (kept : List Kept) → AreNumbered bs kept → length bs < 1000000
+pub few_branchings : (bs : List Branching) (kept : List Kept) → NodesAreNumbered bs kept → length bs < 1000000
 few_branchings bs kept a = omega (arith, count_is bs kept a, a.within)
 
 pub node_within : (bs : List Branching) (kept : List Kept) (n : ℕ) → IsSome (get_or (map kept_leaf kept) n None) → n < length kept
@@ -74,14 +74,14 @@ node_within bs kept n h = omega (
 new_is_leaf : (leaf : OwnLeaf) → kept_leaf (KeptLeaf leaf) ≢ None
 new_is_leaf leaf = not_none (Some (leaf_of leaf)) refl
 
-set_tree_is : (bs : List Branching) (kept : List Kept) (n : ℕ) (leaf : OwnLeaf) → AreNumbered bs kept
+set_tree_is : (bs : List Branching) (kept : List Kept) (n : ℕ) (leaf : OwnLeaf) → NodesAreNumbered bs kept
     → get_or (map kept_leaf kept) n None ≢ None → tree_of bs (map kept_leaf (set kept n (KeptLeaf leaf)))
     ≡ put (tree_of bs (map kept_leaf kept)) (path_in (grown bs) n) (Ends (leaf_of leaf))
 set_tree_is bs kept n leaf a h = ap (λ x. tree_of bs x) (map_set kept n (KeptLeaf leaf))
     ∙ set_tree bs (map kept_leaf kept) n (Some (leaf_of leaf)) a.nodes (in_range (map kept_leaf kept) n h) h
 
-pub put_numbered : (bs : List Branching) (kept : List Kept) (n : ℕ) (leaf : OwnLeaf) → AreNumbered bs kept
-    → IsSome (get_or (map kept_leaf kept) n None) → AreNumbered bs (set kept n (KeptLeaf leaf))
+pub put_numbered : (bs : List Branching) (kept : List Kept) (n : ℕ) (leaf : OwnLeaf) → NodesAreNumbered bs kept
+    → IsSome (get_or (map kept_leaf kept) n None) → NodesAreNumbered bs (set kept n (KeptLeaf leaf))
 put_numbered bs kept n leaf a some =
     let leaves = map kept_leaf kept in
     let h : get_or leaves n None ≢ None = not_none (get_or leaves n None) some in
@@ -97,7 +97,7 @@ put_numbered bs kept n leaf a some =
       within = omega (arith, a.within, same);
     }
 
-pub put_value : (bs : List Branching) (kept : List Kept) (room n : ℕ) (leaf : OwnLeaf) → AreNumbered bs kept
+pub put_value : (bs : List Branching) (kept : List Kept) (room n : ℕ) (leaf : OwnLeaf) → NodesAreNumbered bs kept
     → IsSome (get_or (map kept_leaf kept) n None)
     → value_of bs (set kept n (KeptLeaf leaf)) room ≡ with_leaf (value_of bs kept room) n (leaf_of leaf)
 put_value bs kept room n leaf a some =
@@ -113,7 +113,7 @@ put_value bs kept room n leaf a some =
 
 -- ---- a split
 
-split_tree_is : (bs : List Branching) (kept : List Kept) (b : Branching) (low high : OwnLeaf) → AreNumbered bs kept
+split_tree_is : (bs : List Branching) (kept : List Kept) (b : Branching) (low high : OwnLeaf) → NodesAreNumbered bs kept
     → get_or (map kept_leaf kept) b.node None ≢ None
     → tree_of (bs ++ b ∷ []) (map kept_leaf (after_split kept b.node (length bs) (KeptLeaf low) (KeptLeaf high)))
     ≡ put (tree_of bs (map kept_leaf kept)) (path_in (grown bs) b.node)
@@ -130,8 +130,8 @@ after_count kept n place low high = omega (
 )
 
 pub split_numbered : (bs : List Branching) (kept : List Kept) (b : Branching) (low high : OwnLeaf)
-    → AreNumbered bs kept → IsSome (get_or (map kept_leaf kept) b.node None)
-    → length (map kept_leaf kept) + 2 ≤ 1000000 → AreNumbered (bs ++ b ∷ [])
+    → NodesAreNumbered bs kept → IsSome (get_or (map kept_leaf kept) b.node None)
+    → length (map kept_leaf kept) + 2 ≤ 1000000 → NodesAreNumbered (bs ++ b ∷ [])
     (after_split kept b.node (length bs) (KeptLeaf low) (KeptLeaf high))
 split_numbered bs kept b low high a some room =
     let leaves = map kept_leaf kept in
@@ -154,7 +154,7 @@ split_numbered bs kept b low high a some room =
     }
 
 pub split_value : (bs : List Branching) (kept : List Kept) (room : ℕ) (b : Branching) (low high : OwnLeaf)
-    → AreNumbered bs kept → IsSome (get_or (map kept_leaf kept) b.node None)
+    → NodesAreNumbered bs kept → IsSome (get_or (map kept_leaf kept) b.node None)
     → value_of (bs ++ b ∷ []) (after_split kept b.node (length bs) (KeptLeaf low) (KeptLeaf high)) room
     ≡ with_branch (value_of bs kept room) b.node b.cut (leaf_of low) (leaf_of high)
 split_value bs kept room b low high a some =
@@ -171,18 +171,18 @@ split_value bs kept room b low high a some =
 
 -- where there is room for two more nodes there is memory for one more branching
 pub branching_fits : (bs : List Branching) (kept : List Kept) (room branchings nodes : ℕ)
-    → AreKept bs kept room branchings nodes → length (map kept_leaf kept) + 2 ≤ room → length bs < branchings
+    → TreeListsAreKept bs kept room branchings nodes → length (map kept_leaf kept) + 2 ≤ room → length bs < branchings
 branching_fits bs kept room branchings nodes a h =
     let pairs = a.pairs in
     omega (arith, h, pairs, count_is bs kept a.numbered, length_leaves kept)
 
 -- memory for more nodes and half as many branchings makes room for them
 pub room_is_kept : (bs new_bs : List Branching) (kept new_kept : List Kept)
-    (old more new branchings nodes more_branchings more_nodes : ℕ) → AreKept bs kept old branchings nodes
+    (old more new branchings nodes more_branchings more_nodes : ℕ) → TreeListsAreKept bs kept old branchings nodes
     → new_bs ≡ bs → new_kept ≡ kept
     → branchings ≤ more_branchings → nodes ≤ more_nodes → length bs + (more / 2 + 1) ≤ more_branchings
     → length kept + more ≤ more_nodes → new ≡ max old (length kept + more)
-    → AreKept new_bs new_kept new more_branchings more_nodes
+    → TreeListsAreKept new_bs new_kept new more_branchings more_nodes
 room_is_kept bs new_bs kept new_kept old more new branchings nodes more_branchings more_nodes a is_bs is_kept l m h k e =
     let pairs = a.pairs in
     let each = a.each in

@@ -12,7 +12,7 @@ use Rattle.pesp_truth.specs.Leaves.{leaf_paths}
 use Rattle.pesp_tree.specs.declared.node.Branching.{Branching}
 use Rattle.pesp_tree.specs.declared.node.Kept.{Kept}
 use Rattle.pesp_tree.specs.declared.node.Kept.TheVariants.{Branched}
-use Rattle.pesp_tree.specs.Numbered.{Numbered, Number, Cuts, fill, IsAt, path_in, grown, kept_leaf, leaf_in, tree_of, no_node, AreNumbered, Stands}
+use Rattle.pesp_tree.specs.Numbered.{Numbered, Number, Cuts, fill, IsAt, path_in, grown, kept_leaf, leaf_in, tree_of, no_node, NodesAreNumbered, Stands}
 use Rattle.pesp_tree.specs.Preorder.{own_in, own_at, parts_in, parts_at}
 use Rattle.pesp_tree.proofs.Walking.{HasLeaves, AreTrees, leaf_in_kept, first_known, trees_append, turned}
 use Rattle.pesp_tree.proofs.Holding.{count_is}
@@ -53,7 +53,7 @@ size_is (Cuts cut low high) leaf = omega (
   size_is high leaf,
 )
 
-pub noted_none : (bs : List Branching) (kept : List Kept) (left : ℕ) → AreNumbered bs kept
+pub noted_none : (bs : List Branching) (kept : List Kept) (left : ℕ) → NodesAreNumbered bs kept
     → left ≡ 2 * length bs + 1 → Noted bs kept [] left (0 ∷ [])
 noted_none bs kept left a e = record {
   trees = (grown bs).tree ∷ [];
@@ -177,7 +177,7 @@ numbers_have (Cuts cut low high) P h = All-append P (numbers low) (numbers high)
     (numbers_have low P (λ q m a. h ((cut, Low) ∷ q) m (refl, a)))
     (numbers_have high P (λ q m a. h ((cut, High) ∷ q) m (refl, a)))
 
-module _ (bs : List Branching) (kept : List Kept) (noted waiting : List ℕ) (left : ℕ) (a : AreNumbered bs kept)
+module _ (bs : List Branching) (kept : List Kept) (noted waiting : List ℕ) (left : ℕ) (a : NodesAreNumbered bs kept)
     (w : Noted bs kept noted left (reverse waiting)) (e : waiting ≡ []) where
   all_noted : numbers (grown bs).tree ≡ noted
   all_noted = by_trees last.trees last.stand last.all

@@ -11,8 +11,8 @@ use Rattle.pesp_tree.specs.declared.node.Branching.{Branching}
 use Rattle.pesp_tree.specs.declared.node.Kept.{Kept}
 use Rattle.pesp_tree.specs.declared.node.Kept.TheVariants.{Leaf as KeptLeaf, Branched}
 use Rattle.pesp_tree.specs.Leaves.{leaf_of}
-use Rattle.pesp_tree.specs.Numbered.{Numbered, Number, Cuts, fill, IsAt, grown, kept_leaf, leaf_in, tree_of, AreNumbered, Stands, no_branching, no_node}
-use Rattle.pesp_tree.specs.Preorder.{line_in, line_at, parts_in, parts_at, IsKnown}
+use Rattle.pesp_tree.specs.Numbered.{Numbered, Number, Cuts, fill, IsAt, grown, kept_leaf, leaf_in, tree_of, NodesAreNumbered, Stands, no_branching, no_node}
+use Rattle.pesp_tree.specs.Preorder.{line_in, node_line, parts_in, parts_at, NodeIsKnown}
 use Rattle.pesp_tree.proofs.Standing.{in_range, length_leaves, branch_in_range, branch_has_none}
 
 -- each number of the tree is that of a leaf
@@ -38,7 +38,7 @@ pub record Walked (bs : List Branching) (kept : List Kept) (lines : List Line) (
 
 -- ---- at the root
 
-pub at_start : (bs : List Branching) (kept : List Kept) → AreNumbered bs kept → Walked bs kept [] (0 ∷ [])
+pub at_start : (bs : List Branching) (kept : List Kept) → NodesAreNumbered bs kept → Walked bs kept [] (0 ∷ [])
 at_start bs kept a = record {
   trees = (grown bs).tree ∷ [];
   stand = (a.stands, λ path m h. (a.nodes.only path m h).2, tt);
@@ -58,7 +58,7 @@ same_place : (a b : ℕ) → Branched a ≡ Branched b → a ≡ b
 same_place a b e = cc
 
 pub known : (bs : List Branching) (kept : List Kept) (tree : Numbered) (n : ℕ) → Stands bs kept tree n
-    → HasLeaves (map kept_leaf kept) tree → IsKnown bs kept n
+    → HasLeaves (map kept_leaf kept) tree → NodeIsKnown bs kept n
 known bs kept (Number m) n s h =
     let leaf : get_or (map kept_leaf kept) n None ≢ None = h [] n s in
     (omega (arith, in_range (map kept_leaf kept) n leaf, length_leaves kept), λ place e. absurd (leaf (branch_has_none kept n place e)))
@@ -68,7 +68,7 @@ known bs kept (Cuts cut low high) n s h = (
 )
 
 pub first_known : (bs : List Branching) (kept : List Kept) (n : ℕ) (ns : List ℕ) (trees : List Numbered)
-    → AreTrees bs kept (n ∷ ns) trees → IsKnown bs kept n
+    → AreTrees bs kept (n ∷ ns) trees → NodeIsKnown bs kept n
 first_known bs kept n ns [] s = absurd s
 first_known bs kept n ns (tree ∷ trees) s = known bs kept tree n s.0 s.1
 
@@ -110,7 +110,7 @@ lines_append leaves (t ∷ ts) us = ap (λ l. preorder (fill t (leaf_in leaves))
 step : (bs : List Branching) (kept : List Kept) (lines : List Line) (n : ℕ) (ns : List ℕ) (trees : List Numbered)
     → AreTrees bs kept (n ∷ ns) trees → preorder (tree_of bs (map kept_leaf kept))
     ≡ lines ++ lines_in (map kept_leaf kept) trees
-    → Walked bs kept (lines ++ line_at bs kept n ∷ []) (reverse (parts_at kept n) ++ ns)
+    → Walked bs kept (lines ++ node_line bs kept n ∷ []) (reverse (parts_at kept n) ++ ns)
 step bs kept lines n ns [] stand all = absurd stand
 step bs kept lines n ns (tree ∷ trees) stand all =
     let leaves = map kept_leaf kept in
@@ -121,8 +121,8 @@ step bs kept lines n ns (tree ∷ trees) stand all =
       all =
           all
           ∙ ap (λ l. lines ++ (l ++ lines_in leaves trees)) (opened.2)
-          ∙ sym (append_assoc lines (line_at bs kept n ∷ []) (lines_in leaves opened.0 ++ lines_in leaves trees))
-          ∙ ap (λ l. (lines ++ line_at bs kept n ∷ []) ++ l) (sym (lines_append leaves opened.0 trees));
+          ∙ sym (append_assoc lines (node_line bs kept n ∷ []) (lines_in leaves opened.0 ++ lines_in leaves trees))
+          ∙ ap (λ l. (lines ++ node_line bs kept n ∷ []) ++ l) (sym (lines_append leaves opened.0 trees));
     }
 
 -- ---- the loop, whose stack has the next node last
@@ -131,18 +131,18 @@ pub turned : (waiting popped : List ℕ) (n : ℕ) → waiting ≡ popped ++ n �
 turned waiting popped n e = ap reverse e ∙ reverse-append popped (n ∷ [])
 
 next_known : (bs : List Branching) (kept : List Kept) (lines : List Line) (n : ℕ) (ns : List ℕ)
-    → Walked bs kept lines (n ∷ ns) → IsKnown bs kept n
+    → Walked bs kept lines (n ∷ ns) → NodeIsKnown bs kept n
 next_known bs kept lines n ns w = first_known bs kept n ns w.trees w.stand
 
 pub loop_known : (bs : List Branching) (kept : List Kept) (lines : List Line) (waiting popped : List ℕ) (n : ℕ)
-    → Walked bs kept lines (reverse waiting) → waiting ≡ popped ++ n ∷ [] → IsKnown bs kept n
+    → Walked bs kept lines (reverse waiting) → waiting ≡ popped ++ n ∷ [] → NodeIsKnown bs kept n
 loop_known bs kept lines waiting popped n w e =
     next_known bs kept lines n (reverse popped) (subst (λ ns. Walked bs kept lines ns)
     (turned waiting popped n e) w)
 
 pub loop_step : (bs : List Branching) (kept : List Kept) (lines new_lines : List Line)
     (waiting popped new_waiting : List ℕ) (n : ℕ) → Walked bs kept lines (reverse waiting)
-    → waiting ≡ popped ++ n ∷ [] → new_lines ≡ lines ++ line_at bs kept n ∷ []
+    → waiting ≡ popped ++ n ∷ [] → new_lines ≡ lines ++ node_line bs kept n ∷ []
     → new_waiting ≡ popped ++ parts_at kept n → Walked bs kept new_lines (reverse new_waiting)
 loop_step bs kept lines new_lines waiting popped new_waiting n w e is_lines is_waiting =
     let old : Walked bs kept lines (n ∷ reverse popped) = subst (λ ns. Walked bs kept lines ns) (turned waiting popped n e) w in
@@ -155,7 +155,7 @@ some_line (Ends leaf) = omega arith
 some_line (Branch cut low high) = omega arith
 
 lines_left : (bs : List Branching) (kept : List Kept) (lines : List Line) (n : ℕ) (ns : List ℕ)
-    (trees : List Numbered) → AreNumbered bs kept → AreTrees bs kept (n ∷ ns) trees
+    (trees : List Numbered) → NodesAreNumbered bs kept → AreTrees bs kept (n ∷ ns) trees
     → preorder (tree_of bs (map kept_leaf kept)) ≡ lines ++ lines_in (map kept_leaf kept) trees
     → length lines < length kept
 lines_left bs kept lines n ns [] a stand all = absurd stand
@@ -173,12 +173,12 @@ lines_left bs kept lines n ns (tree ∷ trees) a stand all =
     )
 
 pub loop_smaller : (bs : List Branching) (kept : List Kept) (lines new_lines : List Line) (waiting popped : List ℕ)
-    (n : ℕ) → AreNumbered bs kept → Walked bs kept lines (reverse waiting) → waiting ≡ popped ++ n ∷ []
-    → new_lines ≡ lines ++ line_at bs kept n ∷ [] → length kept - length new_lines < length kept - length lines
+    (n : ℕ) → NodesAreNumbered bs kept → Walked bs kept lines (reverse waiting) → waiting ≡ popped ++ n ∷ []
+    → new_lines ≡ lines ++ node_line bs kept n ∷ [] → length kept - length new_lines < length kept - length lines
 loop_smaller bs kept lines new_lines waiting popped n a w e is_lines =
     let old : Walked bs kept lines (n ∷ reverse popped) = subst (λ ns. Walked bs kept lines ns) (turned waiting popped n e) w in
     let less = lines_left bs kept lines n (reverse popped) old.trees a old.stand old.all in
-    let more : length new_lines ≡ length lines + 1 = ap length is_lines ∙ length-append lines (line_at bs kept n ∷ []) in
+    let more : length new_lines ≡ length lines + 1 = ap length is_lines ∙ length-append lines (node_line bs kept n ∷ []) in
     omega (arith, less, more)
 
 none_waits : (bs : List Branching) (kept : List Kept) (lines : List Line) (trees : List Numbered)

@@ -3,3 +3,15 @@ pub mod Codes
 pub mod WorkTrees
 pub mod Numbered
 pub mod Preorder
+pub mod Entries
+pub mod Queues
+pub mod Heaps
+pub mod Held
+pub mod BoardLeaves
+pub mod States
+pub mod Limits
+pub mod Events
+pub mod Reached
+pub mod Certificates
+pub mod EventCodes
+pub mod Adopting

@@ -126,7 +126,7 @@ Stands bs kept (Cuts cut low high) n =
     × Stands bs kept high (2 * place + 2)
 
 -- the lists keep a tree whose nodes are numbered as they were made
-pub record AreNumbered (bs : List Branching) (kept : List Kept) : Type 0 where
+pub record NodesAreNumbered (bs : List Branching) (kept : List Kept) : Type 0 where
   pub nodes : AreNodes bs (map kept_leaf kept)
   pub below : AreBelow 1 bs
   pub stands : Stands bs kept (grown bs).tree 0
@@ -134,8 +134,8 @@ pub record AreNumbered (bs : List Branching) (kept : List Kept) : Type 0 where
   pub within : length kept ≤ MOST_LINES
 
 -- the lists are those of a tree, with memory for so many branchings and so many nodes, of which this many make the room
-pub record AreKept (bs : List Branching) (kept : List Kept) (room branchings nodes : ℕ) : Type 0 where
-  pub numbered : AreNumbered bs kept
+pub record TreeListsAreKept (bs : List Branching) (kept : List Kept) (room branchings nodes : ℕ) : Type 0 where
+  pub numbered : NodesAreNumbered bs kept
   pub pairs : room ≤ 2 * branchings + 1
   pub each : room ≤ nodes
 

@@ -13,8 +13,8 @@ line_in bs (KeptLeaf leaf) = EndLine (leaf_of leaf)
 line_in bs (Branched place) = CutLine (slice_index_or bs place no_branching).cut
 
 -- the line of a node
-abbrev pub line_at : List Branching → List Kept → ℕ → Line
-line_at bs kept n = line_in bs (slice_index_or kept n no_node)
+abbrev pub node_line : List Branching → List Kept → ℕ → Line
+node_line bs kept n = line_in bs (slice_index_or kept n no_node)
 
 -- the numbers of the two parts of a branch, the low part last
 abbrev pub parts_in : Kept → List ℕ
@@ -26,8 +26,8 @@ abbrev pub parts_at : List Kept → ℕ → List ℕ
 parts_at kept n = parts_in (slice_index_or kept n no_node)
 
 -- there is such a node, and its branching where it has one
-abbrev pub IsKnown : List Branching → List Kept → ℕ → Type 0
-IsKnown bs kept n = (n < length kept) × ((place : ℕ) → slice_index_or kept n no_node ≡ Branched place → place < length bs)
+abbrev pub NodeIsKnown : List Branching → List Kept → ℕ → Type 0
+NodeIsKnown bs kept n = (n < length kept) × ((place : ℕ) → slice_index_or kept n no_node ≡ Branched place → place < length bs)
 
 -- the node itself where it keeps a leaf, and nothing where it is a branch
 abbrev pub own_in : Kept → ℕ → List ℕ

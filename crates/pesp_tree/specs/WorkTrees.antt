@@ -24,8 +24,8 @@ abbrev pub leaf_at : WorkTreeValue → ℕ → Option Leaf
 leaf_at t node = slice_index_or t.leaves node None
 
 -- one bound leaf without pairs, which is node 0, with room for itself
-abbrev pub opening : WorkTreeValue
-opening = record { tree = Ends (Bound []); paths = [] ∷ []; leaves = Some (Bound []) ∷ []; room = 1 }
+abbrev pub opening_tree : WorkTreeValue
+opening_tree = record { tree = Ends (Bound []); paths = [] ∷ []; leaves = Some (Bound []) ∷ []; room = 1 }
 
 -- another leaf at a node
 abbrev pub with_leaf : WorkTreeValue → ℕ → Leaf → WorkTreeValue

@@ -1,8 +1,7 @@
 //! The leaves of a tree under work.
 
 ghost use Rattle.std.specs.Prelude.{◌≡◌, IfOk};
-ghost use Rattle.pesp_truth.specs.Trees.{EndLine};
-ghost use Rattle.pesp_truth.specs.Certificates.{line_of};
+ghost use Rattle.pesp_truth.specs.Trees.{EndLine, line_of};
 ghost use Rattle.pesp_tree.specs.Leaves.{leaf_of};
 
 use pesp_problem::{Memory, Pairs};

@@ -4,7 +4,7 @@ ghost use Rattle.std.specs.Prelude.{◌≡◌, ℕ, ◌<◌, ◌++◌, length, m
 ghost use Rattle.pesp_problem.specs.declared.limits.TheConstants.{MOST_LINES};
 ghost use Rattle.pesp_truth.specs.Leaves.{leaf_paths};
 ghost use Rattle.pesp_tree.specs.declared.node.Kept.TheVariants.{Branched};
-ghost use Rattle.pesp_tree.specs.Numbered.{grown, path_in, kept_leaf, tree_of, no_node, AreNumbered};
+ghost use Rattle.pesp_tree.specs.Numbered.{grown, path_in, kept_leaf, tree_of, no_node, NodesAreNumbered};
 ghost use Rattle.pesp_tree.specs.Preorder.{own_at, parts_at};
 
 use crate::node::{Branching, Kept};
@@ -44,7 +44,7 @@ pub(crate) fn leaf_nodes(
     branchings: &[Branching],
     nodes: &[Kept],
 ) -> Result<Vec<u32>, Memory>
-    requires { AreNumbered branchings.now nodes.now }
+    requires { NodesAreNumbered branchings.now nodes.now }
     ensures paths { IfOk result (λ leaves. map (path_in (grown branchings.now)) leaves.items
         ≡ leaf_paths (tree_of branchings.now (map kept_leaf nodes.now))) }
     ensures leaves { IfOk result (λ leaves. All

@@ -2,10 +2,9 @@
 
 ghost use Rattle.std.specs.Prelude.{◌≡◌, ◌<◌, [], ◌∷◌, ◌++◌, length, map, IfOk, OnOk};
 ghost use Rattle.pesp_problem.specs.declared.limits.TheConstants.{MOST_LINES};
-ghost use Rattle.pesp_truth.specs.Trees.{CutLine, preorder};
-ghost use Rattle.pesp_truth.specs.Certificates.{line_of};
-ghost use Rattle.pesp_tree.specs.Numbered.{kept_leaf, tree_of, AreNumbered};
-ghost use Rattle.pesp_tree.specs.Preorder.{line_at, parts_at, IsKnown};
+ghost use Rattle.pesp_truth.specs.Trees.{CutLine, preorder, line_of};
+ghost use Rattle.pesp_tree.specs.Numbered.{kept_leaf, tree_of, NodesAreNumbered};
+ghost use Rattle.pesp_tree.specs.Preorder.{node_line, parts_at, NodeIsKnown};
 
 use crate::leaf::leaf_line;
 use crate::node::{Branching, Kept};
@@ -32,10 +31,10 @@ fn visit(
     lines: &mut Vec<TreeLine>,
     waiting: &mut Vec<u32>,
 ) -> Result<(), Memory>
-    requires node { IsKnown branchings.now nodes.now node }
+    requires node { NodeIsKnown branchings.now nodes.now node }
     requires few { length branchings.now < MOST_LINES }
     ensures lines { OnOk result (map line_of lines.new.items
-        ≡ map line_of lines.old.items ++ line_at branchings.now nodes.now node ∷ []) }
+        ≡ map line_of lines.old.items ++ node_line branchings.now nodes.now node ∷ []) }
     ensures waiting { OnOk result
         (waiting.new.items ≡ waiting.old.items ++ parts_at nodes.now node) }
 {
@@ -59,7 +58,7 @@ pub(crate) fn lines_of(
     branchings: &[Branching],
     nodes: &[Kept],
 ) -> Result<Vec<TreeLine>, Memory>
-    requires { AreNumbered branchings.now nodes.now }
+    requires { NodesAreNumbered branchings.now nodes.now }
     ensures { IfOk result (λ lines. map line_of lines.items
         ≡ preorder (tree_of branchings.now (map kept_leaf nodes.now))) }
 {

@@ -2,11 +2,10 @@
 
 ghost use Rattle.std.specs.Prelude.{◌≡◌, ◌<◌, ◌≤◌, ◌+◌, length, map, option_map, option_copied, All, IsSome, IfOk, OnOk, OnErr};
 ghost use Rattle.pesp_problem.specs.declared.limits.TheConstants.{MOST_LINES};
-ghost use Rattle.pesp_truth.specs.Trees.{preorder};
-ghost use Rattle.pesp_truth.specs.Certificates.{line_of};
+ghost use Rattle.pesp_truth.specs.Trees.{preorder, line_of};
 ghost use Rattle.pesp_truth.specs.Leaves.{leaf_paths};
 ghost use Rattle.pesp_tree.specs.Leaves.{leaf_of};
-ghost use Rattle.pesp_tree.specs.WorkTrees.{opening, path_to, leaf_at, with_leaf, with_branch, with_room, IsWhole};
+ghost use Rattle.pesp_tree.specs.WorkTrees.{opening_tree, path_to, leaf_at, with_leaf, with_branch, with_room, IsWhole};
 
 use crate::leaf::Leaf;
 use crate::leaf_nodes::leaf_nodes;
@@ -33,7 +32,7 @@ impl Model for WorkTree {
     ghost use Rattle.pesp_tree.specs.Codes.{work_tree_code};
     ghost use Rattle.pesp_tree.specs.WorkTrees.{WorkTreeValue};
     ghost use Rattle.std.specs.Prelude.{vec_capacity};
-    ghost use Rattle.pesp_tree.specs.Numbered.{value_of, AreKept};
+    ghost use Rattle.pesp_tree.specs.Numbered.{value_of, TreeListsAreKept};
 
     ghost Value = { WorkTreeValue };
 
@@ -41,14 +40,14 @@ impl Model for WorkTree {
 
     ghost view = { λ t. value_of t.branchings.items t.nodes.items t.room };
 
-    ghost invariant = { λ t. AreKept t.branchings.items t.nodes.items t.room
+    ghost invariant = { λ t. TreeListsAreKept t.branchings.items t.nodes.items t.room
         (vec_capacity t.branchings) (vec_capacity t.nodes) };
 }
 
 impl WorkTree {
     /// A tree of one bound leaf without pairs. The one refusal is of memory.
     pub fn new(alloc: Global) -> Result<WorkTree, Memory>
-        ensures tree { IfOk result (λ tree. tree ≡ opening) }
+        ensures tree { IfOk result (λ tree. tree ≡ opening_tree) }
         ensures whole { IfOk result IsWhole }
     {
         let none = Leaf::Bound(Pairs::new(Vec::new(alloc)));

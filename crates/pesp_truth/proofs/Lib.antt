@@ -1,4 +1,4 @@
-pub mod Multipliers
+pub mod Named
 pub mod Rooms
 pub mod FrontLimits
 pub mod Trees
@@ -18,3 +18,8 @@ pub mod AgreeingLeaves
 pub mod Widening
 pub mod Using
 pub mod Choosing
+pub mod Sums
+pub mod LemmaLeaves
+pub mod Shown
+pub mod WorkedLemmas
+pub mod Small

@@ -1,24 +1,23 @@
 -- A whole tree is the same as its lines in preorder.
 use Rattle.std.proofs.Common.{◌≡◌, ℕ, zero, suc, List, [], ◌∷◌, ◌++◌, length, refl, sym, ◌∙◌, ap, append_assoc, append-nil, subst, arith, true}
-use Rattle.std.specs.Prelude.{Option, ◌↔◌}
+use Rattle.std.specs.Prelude.{◌↔◌}
 use Rattle.pesp_problem.specs.declared.row.SignedRow.{SignedRow}
 use Rattle.pesp_problem.specs.declared.cut.Cut.{Cut}
 use Rattle.pesp_problem.specs.Arcs.{Net}
 use Rattle.pesp_problem.specs.Nodes.{Node, low_part, high_part}
-use Rattle.pesp_truth.specs.Marks.{Marks}
-use Rattle.pesp_truth.specs.Trees.{Tree, Line, Ends, Branch, EndLine, CutLine, preorder, IsSound, AreSound, are_trees, CutExists}
+use Rattle.pesp_truth.specs.Trees.{Tree, Line, Claim, Ends, Branch, EndLine, CutLine, preorder, IsSound, AreSound, are_trees, CutExists}
 
 -- from the tree to its lines, before any further lines that are sound for the nodes that wait
-sound_lines : (front : Option Marks) (n : Net) (table : List (List SignedRow)) (least : Option ℕ) (tree : Tree) (node : Node)
-    (rest : List Line) (nodes : List Node) → IsSound front n table least tree node → AreSound front n table least rest nodes
-    → AreSound front n table least (preorder tree ++ rest) (node ∷ nodes)
-sound_lines front n table least (Ends leaf) node rest nodes s a = (s, a)
-sound_lines front n table least (Branch cut low high) node rest nodes s a = (
+sound_lines : (claim : Claim) (n : Net) (table : List (List SignedRow)) (tree : Tree) (node : Node)
+    (rest : List Line) (nodes : List Node) → IsSound claim n table tree node → AreSound claim n table rest nodes
+    → AreSound claim n table (preorder tree ++ rest) (node ∷ nodes)
+sound_lines claim n table (Ends leaf) node rest nodes s a = (s, a)
+sound_lines claim n table (Branch cut low high) node rest nodes s a = (
   s.0,
-  subst (λ lines. AreSound front n table least lines (low_part node cut ∷ high_part node cut ∷ nodes))
+  subst (λ lines. AreSound claim n table lines (low_part node cut ∷ high_part node cut ∷ nodes))
       (sym (append_assoc (preorder low) (preorder high) rest))
-      (sound_lines front n table least low (low_part node cut) (preorder high ++ rest) (high_part node cut ∷ nodes) s.1
-      (sound_lines front n table least high (high_part node cut) rest nodes s.2 a)),
+      (sound_lines claim n table low (low_part node cut) (preorder high ++ rest) (high_part node cut ∷ nodes) s.1
+      (sound_lines claim n table high (high_part node cut) rest nodes s.2 a)),
 )
 
 -- trees, one after the other, that are sound each at its node
@@ -26,60 +25,60 @@ abbrev forest_lines : List Tree → List Line
 forest_lines [] = []
 forest_lines (tree ∷ trees) = preorder tree ++ forest_lines trees
 
-abbrev ForestSound : Option Marks → Net → List (List SignedRow) → Option ℕ → List Tree → List Node → Type 0
-ForestSound front n table least [] [] = Unit {0}
-ForestSound front n table least [] (node ∷ nodes) = ⊥
-ForestSound front n table least (tree ∷ trees) [] = ⊥
-ForestSound front n table least (tree ∷ trees) (node ∷ nodes) = IsSound front n table least tree node × ForestSound front n table least trees nodes
+abbrev ForestSound : Claim → Net → List (List SignedRow) → List Tree → List Node → Type 0
+ForestSound claim n table [] [] = Unit {0}
+ForestSound claim n table [] (node ∷ nodes) = ⊥
+ForestSound claim n table (tree ∷ trees) [] = ⊥
+ForestSound claim n table (tree ∷ trees) (node ∷ nodes) = IsSound claim n table tree node × ForestSound claim n table trees nodes
 
 -- the first two trees joined under a cut
-join : (front : Option Marks) (n : Net) (table : List (List SignedRow)) (least : Option ℕ) (cut : Cut) (lines : List Line) (node : Node)
+join : (claim : Claim) (n : Net) (table : List (List SignedRow)) (cut : Cut) (lines : List Line) (node : Node)
     (nodes : List Node) (trees : List Tree) → CutExists n table cut → forest_lines trees ≡ lines
-    → ForestSound front n table least trees (low_part node cut ∷ high_part node cut ∷ nodes)
+    → ForestSound claim n table trees (low_part node cut ∷ high_part node cut ∷ nodes)
     → (joined : List Tree) × (forest_lines joined ≡ CutLine cut ∷ lines)
-    × ForestSound front n table least joined (node ∷ nodes)
-join front n table least cut lines node nodes [] e l s = absurd s
-join front n table least cut lines node nodes (low ∷ []) e l s = absurd s.1
-join front n table least cut lines node nodes (low ∷ high ∷ trees) e l s = (
+    × ForestSound claim n table joined (node ∷ nodes)
+join claim n table cut lines node nodes [] e l s = absurd s
+join claim n table cut lines node nodes (low ∷ []) e l s = absurd s.1
+join claim n table cut lines node nodes (low ∷ high ∷ trees) e l s = (
   Branch cut low high ∷ trees,
   ap (λ x. CutLine cut ∷ x)
       (append_assoc (preorder low) (preorder high) (forest_lines trees) ∙ l),
   ((e, s.0, s.1.0), s.1.1),
 )
 
-forest_of : (front : Option Marks) (n : Net) (table : List (List SignedRow)) (least : Option ℕ) (lines : List Line) (nodes : List Node)
-    → AreSound front n table least lines nodes → (trees : List Tree) × (forest_lines trees ≡ lines)
-    × ForestSound front n table least trees nodes
-forest_of front n table least [] [] a = ([], refl, tt)
-forest_of front n table least [] (node ∷ nodes) a = absurd a
-forest_of front n table least (line ∷ lines) [] a = absurd a
-forest_of front n table least (EndLine leaf ∷ lines) (node ∷ nodes) a =
-    let rest = forest_of front n table least lines nodes a.1 in
+forest_of : (claim : Claim) (n : Net) (table : List (List SignedRow)) (lines : List Line) (nodes : List Node)
+    → AreSound claim n table lines nodes → (trees : List Tree) × (forest_lines trees ≡ lines)
+    × ForestSound claim n table trees nodes
+forest_of claim n table [] [] a = ([], refl, tt)
+forest_of claim n table [] (node ∷ nodes) a = absurd a
+forest_of claim n table (line ∷ lines) [] a = absurd a
+forest_of claim n table (EndLine leaf ∷ lines) (node ∷ nodes) a =
+    let rest = forest_of claim n table lines nodes a.1 in
     (Ends leaf ∷ rest.0, ap (λ x. EndLine leaf ∷ x) rest.1, (a.0, rest.2))
-forest_of front n table least (CutLine cut ∷ lines) (node ∷ nodes) a =
-    let rest = forest_of front n table least lines (low_part node cut ∷ high_part node cut ∷ nodes) a.1 in
-    join front n table least cut lines node nodes rest.0 a.0 rest.1 rest.2
+forest_of claim n table (CutLine cut ∷ lines) (node ∷ nodes) a =
+    let rest = forest_of claim n table lines (low_part node cut ∷ high_part node cut ∷ nodes) a.1 in
+    join claim n table cut lines node nodes rest.0 a.0 rest.1 rest.2
 
-only : (front : Option Marks) (n : Net) (table : List (List SignedRow)) (least : Option ℕ) (lines : List Line) (node : Node)
-    (trees : List Tree) → forest_lines trees ≡ lines → ForestSound front n table least trees (node ∷ [])
-    → (tree : Tree) × (preorder tree ≡ lines) × IsSound front n table least tree node
-only front n table least lines node [] l s = absurd s
-only front n table least lines node (tree ∷ []) l s = (tree, sym (append-nil (preorder tree)) ∙ l, s.0)
-only front n table least lines node (tree ∷ other ∷ trees) l s = absurd s.1
+only : (claim : Claim) (n : Net) (table : List (List SignedRow)) (lines : List Line) (node : Node)
+    (trees : List Tree) → forest_lines trees ≡ lines → ForestSound claim n table trees (node ∷ [])
+    → (tree : Tree) × (preorder tree ≡ lines) × IsSound claim n table tree node
+only claim n table lines node [] l s = absurd s
+only claim n table lines node (tree ∷ []) l s = (tree, sym (append-nil (preorder tree)) ∙ l, s.0)
+only claim n table lines node (tree ∷ other ∷ trees) l s = absurd s.1
 
 -- the checker's walk over lines with the nodes that wait, and the tree
-pub sound_as_tree : (front : Option Marks) (n : Net) (table : List (List SignedRow)) (least : Option ℕ) (lines : List Line) (node : Node)
-    → AreSound front n table least lines (node ∷ []) → (tree : Tree) × (preorder tree ≡ lines)
-    × IsSound front n table least tree node
-sound_as_tree front n table least lines node a =
-    let forest = forest_of front n table least lines (node ∷ []) a in
-    only front n table least lines node forest.0 forest.1 forest.2
+pub sound_as_tree : (claim : Claim) (n : Net) (table : List (List SignedRow)) (lines : List Line) (node : Node)
+    → AreSound claim n table lines (node ∷ []) → (tree : Tree) × (preorder tree ≡ lines)
+    × IsSound claim n table tree node
+sound_as_tree claim n table lines node a =
+    let forest = forest_of claim n table lines (node ∷ []) a in
+    only claim n table lines node forest.0 forest.1 forest.2
 
-pub sound_as_lines : (front : Option Marks) (n : Net) (table : List (List SignedRow)) (least : Option ℕ) (lines : List Line) (node : Node)
-    → (tree : Tree) × (preorder tree ≡ lines) × IsSound front n table least tree node
-    → AreSound front n table least lines (node ∷ [])
-sound_as_lines front n table least lines node t = subst (λ ls. AreSound front n table least ls (node ∷ []))
-    (append-nil (preorder t.0) ∙ t.1) (sound_lines front n table least t.0 node [] [] t.2 tt)
+pub sound_as_lines : (claim : Claim) (n : Net) (table : List (List SignedRow)) (lines : List Line) (node : Node)
+    → (tree : Tree) × (preorder tree ≡ lines) × IsSound claim n table tree node
+    → AreSound claim n table lines (node ∷ [])
+sound_as_lines claim n table lines node t = subst (λ ls. AreSound claim n table ls (node ∷ []))
+    (append-nil (preorder t.0) ∙ t.1) (sound_lines claim n table t.0 node [] [] t.2 tt)
 
 -- ---- one tree for whole lines
 

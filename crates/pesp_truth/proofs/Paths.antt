@@ -8,7 +8,7 @@ use Rattle.pesp_problem.specs.declared.cut.Side.{Side}
 use Rattle.pesp_problem.specs.declared.cut.Side.TheVariants.{Low, High}
 use Rattle.pesp_problem.specs.declared.cut.Cut.TheVariants.{Slack, Offset}
 use Rattle.pesp_problem.specs.Nodes.{Node, slack_range, offset_range, part, high_part}
-use Rattle.pesp_truth.specs.Paths.{along, beside, waiting}
+use Rattle.pesp_truth.specs.Paths.{along, beside, waiting_beside}
 
 pub along-push : (node : Node) (path : List (Cut × Side)) (cut : Cut) (side : Side)
     → along node (path ++ (cut, side) ∷ []) ≡ part (along node path) cut side
@@ -16,30 +16,30 @@ along-push node [] cut side = refl
 along-push node (step ∷ path) cut side = along-push (part node step.0 step.1) path cut side
 
 waiting-push : (node : Node) (path : List (Cut × Side)) (cut : Cut) (side : Side)
-    → waiting node (path ++ (cut, side) ∷ []) ≡ beside (along node path) cut side ++ waiting node path
+    → waiting_beside node (path ++ (cut, side) ∷ []) ≡ beside (along node path) cut side ++ waiting_beside node path
 waiting-push node [] cut side = sym (append-nil (beside node cut side))
 waiting-push node (step ∷ path) cut side =
     ap (λ nodes. nodes ++ beside node step.0 step.1) (waiting-push (part node step.0 step.1) path cut side)
     ∙ append_assoc (beside (along (part node step.0 step.1) path) cut side)
-    (waiting (part node step.0 step.1) path) (beside node step.0 step.1)
+    (waiting_beside (part node step.0 step.1) path) (beside node step.0 step.1)
 
 -- into the first part: the second waits
 pub go_low : (node : Node) (path : List (Cut × Side)) (cut : Cut)
-    → waiting node (path ++ (cut, Low) ∷ []) ≡ high_part (along node path) cut ∷ waiting node path
+    → waiting_beside node (path ++ (cut, Low) ∷ []) ≡ high_part (along node path) cut ∷ waiting_beside node path
 go_low node path cut = waiting-push node path cut Low
 
 -- out of a second part: the same nodes wait
-pub leave_high : (node : Node) (path : List (Cut × Side)) (cut : Cut) → waiting node (path ++ (cut, High) ∷ []) ≡ waiting node path
+pub leave_high : (node : Node) (path : List (Cut × Side)) (cut : Cut) → waiting_beside node (path ++ (cut, High) ∷ []) ≡ waiting_beside node path
 leave_high node path cut = waiting-push node path cut High
 
 -- from a first part over to the second: it is the first that waited
 pub turn : (node : Node) (path : List (Cut × Side)) (cut : Cut)
-    → waiting node (path ++ (cut, Low) ∷ []) ≡ along node (path ++ (cut, High) ∷ [])
-    ∷ waiting node (path ++ (cut, High) ∷ [])
+    → waiting_beside node (path ++ (cut, Low) ∷ []) ≡ along node (path ++ (cut, High) ∷ [])
+    ∷ waiting_beside node (path ++ (cut, High) ∷ [])
 turn node path cut =
     waiting-push node path cut Low
     ∙ ap (λ nodes. high_part (along node path) cut ∷ nodes) (sym (leave_high node path cut))
-    ∙ ap (λ n. n ∷ waiting node (path ++ (cut, High) ∷ [])) (sym (along-push node path cut High))
+    ∙ ap (λ n. n ∷ waiting_beside node (path ++ (cut, High) ∷ [])) (sym (along-push node path cut High))
 
 set_back : {A : Type 0} (xs : List A) (i : ℕ) (x d : A) → set (set xs i x) i (get_or xs i d) ≡ xs
 set_back [] i x d = refl

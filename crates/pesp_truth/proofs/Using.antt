@@ -11,9 +11,9 @@ use Rattle.pesp_problem.proofs.Arcs.{length-arcs_of, arc_at-arcs_of, slacks_at-n
 use Rattle.pesp_truth.specs.declared.answer.Answer.TheVariants.{Infeasible}
 use Rattle.pesp_truth.specs.declared.tree.TreeLine.{TreeLine}
 use Rattle.pesp_truth.specs.declared.tree.TreeLine.TheVariants.{Slack as SlackLine, Offset as OffsetLine, Bound as BoundLine, Nothing as NothingLine, Gap as GapLine, Propagated as PropagatedLine}
-use Rattle.pesp_truth.specs.Trees.{Tree, Leaf, Line, Ends, Branch, Bound, Shut, ByPairs, ByGap, ByPropagation, EndLine, CutLine, preorder, IsSound}
-use Rattle.pesp_truth.specs.Certificates.{Content, IsValid, line_of, least_of}
-use Rattle.pesp_truth.proofs.Trees.{sound_is_right}
+use Rattle.pesp_truth.specs.Trees.{Tree, Leaf, Line, Ends, Branch, Bound, Shut, ByPairs, ByGap, ByPropagation, EndLine, CutLine, line_of, preorder, Plain, IsSound}
+use Rattle.pesp_truth.specs.Certificates.{Content, IsValid, least_of}
+use Rattle.pesp_truth.proofs.Trees.{trees_are_right}
 use Rattle.pesp_truth.specs.Conflicts.{KeepsRows, AreInConflict}
 use Rattle.pesp_truth.specs.Used.{LineUsesOnly, UsesOnly}
 use Rattle.pesp_truth.proofs.Passing.{Rows, PairRows}
@@ -75,15 +75,15 @@ uses_lines listed rows table (PropagatedLine ∷ lines) h = (
 
 sound_leaf : (P : ℕ → Type 0) (n : Net) (table : List (List SignedRow)) (leaf : Leaf) (a b : Node)
     → LeafUses P (length n.arcs) table leaf → Agree P (length n.arcs) table a b
-    → IsSound None n table None (Ends leaf) a → IsSound None n table None (Ends leaf) b
+    → IsSound (Plain None) n table (Ends leaf) a → IsSound (Plain None) n table (Ends leaf) b
 sound_leaf P n table (Bound pairs) a b u k s = absurd s.1
 sound_leaf P n table (Shut (ByPairs pairs)) a b u k s = (s.0, nothing_agrees P n table a b pairs s.0 u k s.1)
 sound_leaf P n table (Shut (ByGap cycle)) a b u k s = (s.0, gap_agrees P n table a b cycle s.0 u k s.1)
 sound_leaf P n table (Shut ByPropagation) a b u k s = (s.0, propagated_agrees P n table a b s.0 u k s.1)
 
 sound_too : (P : ℕ → Type 0) (n : Net) (table : List (List SignedRow)) (tree : Tree) (a b : Node)
-    → TreeUses P (length n.arcs) table tree → Agree P (length n.arcs) table a b → IsSound None n table None tree a
-    → IsSound None n table None tree b
+    → TreeUses P (length n.arcs) table tree → Agree P (length n.arcs) table a b → IsSound (Plain None) n table tree a
+    → IsSound (Plain None) n table tree b
 sound_too P n table (Ends leaf) a b u k s = sound_leaf P n table leaf a b u k s
 sound_too P n table (Branch cut low high) a b u k s = (
   s.0,
@@ -106,8 +106,8 @@ pub used_rows_conflict : (p : Pesp) (content : Content) (listed : List ℕ) → 
     → content.answer ≡ Infeasible → UsesOnly (length p.rows) content listed → AreInConflict p listed
 used_rows_conflict p content listed h valid answer uses times kept =
     let tree = valid.tree.0 in
-    let sound : IsSound None (net_of p) content.cycles None tree (root (net_of p) content.cycles) =
-    subst (λ a. IsSound None (net_of p) content.cycles (least_of a) tree (root (net_of p) content.cycles)) answer
+    let sound : IsSound (Plain None) (net_of p) content.cycles tree (root (net_of p) content.cycles) =
+    subst (λ a. IsSound (Plain (least_of a)) (net_of p) content.cycles tree (root (net_of p) content.cycles)) answer
     valid.tree.2 in
     let lines = uses_lines listed (length p.rows) content.cycles content.tree uses in
     let of_tree : LinesUse (Contains listed) (length p.rows) content.cycles (preorder tree ++ []) =
@@ -118,5 +118,5 @@ used_rows_conflict p content listed h valid answer uses times kept =
     let agree = roots_agree (Contains listed) (net_of p) content.cycles times (kept_within_span p listed times h kept) in
     let wide = sound_too (Contains listed) (net_of p) content.cycles tree (root (net_of p) content.cycles)
     (wide_root (net_of p) content.cycles times) used' agree sound in
-    sound_is_right None (net_of p) content.cycles times None tree (wide_root (net_of p) content.cycles times) h tt wide
+    trees_are_right (Plain None) (net_of p) content.cycles times tree (wide_root (net_of p) content.cycles times) h tt wide
     (lies_in_wide_root (net_of p) content.cycles times h valid.cycles)

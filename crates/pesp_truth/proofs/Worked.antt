@@ -14,7 +14,7 @@ use Rattle.pesp_problem.specs.Families.{NoFamilyIsSupported}
 use Rattle.pesp_problem.proofs.Worked.{row, plus, minus, pair, single, both, one_row, one_row_timetable, late, against, against_table, against_root, aside, aside_table, aside_root, aside_low, aside_high, loop, loop_table, tight_loop, large, crossed, crossed_table}
 use Rattle.pesp_truth.specs.declared.answer.Answer.TheVariants.{Optimal, Infeasible, Bounded}
 use Rattle.pesp_truth.specs.declared.tree.TreeLine.TheVariants.{Offset as OffsetLine, Bound as BoundLine, Nothing as NothingLine, Gap as GapLine, Propagated as PropagatedLine}
-use Rattle.pesp_truth.specs.Trees.{Tree, Ends, Branch, Bound, Shut, ByPropagation, Nothing, Gap, IsSoundLeaf, IsSound}
+use Rattle.pesp_truth.specs.Trees.{Tree, Plain, Ends, Branch, Bound, Shut, ByPropagation, Nothing, Gap, IsSoundLeaf, IsSound}
 use Rattle.pesp_truth.specs.Certificates.{Content, IsValid, ShowsAnswer}
 
 -- what the pairs of a table of one cycle name
@@ -34,10 +34,10 @@ nothing_certificate = record { version = 1; period = 10; answer = Optimal 0; tim
 
 nothing_valid : IsValid None nothing nothing_certificate
 nothing_valid = record {
+  shown = tt;
   period = refl;
   answer = (refl, (((refl, All-nil (λ t. t < 10)), All-nil (λ r. IsSatisfied nothing [] r)), refl));
   cycles = All-nil (IsWalk (arcs_of nothing));
-  marks = tt;
   tree = (Ends (Bound []), refl, (no_pairs 0, le_z_yes tt));
 }
 
@@ -55,10 +55,10 @@ one_row_certificate = record {
 
 one_row_valid : IsValid None one_row one_row_certificate
 one_row_valid = record {
+  shown = tt;
   period = refl;
   answer = (refl, one_row_timetable);
   cycles = All-nil (IsWalk (arcs_of one_row));
-  marks = tt;
   tree = (Ends (Bound []), refl, (no_pairs 0, le_z_yes tt));
 }
 
@@ -68,10 +68,10 @@ late_certificate = record { version = 1; period = 60; answer = Bounded 0 None; t
 
 late_valid : IsValid None late late_certificate
 late_valid = record {
+  shown = tt;
   period = refl;
   answer = refl;
   cycles = All-nil (IsWalk (arcs_of late));
-  marks = tt;
   tree = (Ends (Bound []), refl, (no_pairs 0, le_z_yes tt));
 }
 
@@ -105,20 +105,20 @@ against_walk = single (IsWalk (arcs_of against)) (plus 1 ∷ plus 2 ∷ []) (
 
 against_valid : IsValid None against against_certificate
 against_valid = record {
+  shown = tt;
   period = refl;
   answer = (refl, against_timetable);
   cycles = against_walk;
-  marks = tt;
   tree = (Ends (Bound (pair 1 (pos 1) ∷ [])), refl, (one_pair (pos 1), le_z_yes tt));
 }
 
 -- a bound below the cost
 against_bounded : IsValid None against (record against_certificate { answer = Bounded 2 (Some 3) })
 against_bounded = record {
+  shown = tt;
   period = refl;
   answer = (omega arith, (refl, against_timetable));
   cycles = against_walk;
-  marks = tt;
   tree = (Ends (Bound (pair 1 (pos 1) ∷ [])), refl, (one_pair (pos 1), le_z_yes tt));
 }
 
@@ -139,10 +139,10 @@ other_order : ShowsAnswer against (Optimal 3) (pos 2 ∷ pos 1 ∷ []) (0 ∷ 3 
 other_order s = cc (s.0)
 
 -- not: a bound leaf where no least cost is wanted, a gap that is none
-bound_in_infeasible : IsSoundLeaf None (net_of against) against_table None (Bound (pair 1 (pos 1) ∷ [])) against_root → ⊥
+bound_in_infeasible : IsSoundLeaf (Plain None) (net_of against) against_table (Bound (pair 1 (pos 1) ∷ [])) against_root → ⊥
 bound_in_infeasible s = s.1
 
-no_gap : IsSoundLeaf None (net_of against) against_table None (Gap 1) against_root → ⊥
+no_gap : IsSoundLeaf (Plain None) (net_of against) against_table (Gap 1) against_root → ⊥
 no_gap s = cc (s.1)
 
 -- ---- two rows side by side
@@ -160,7 +160,7 @@ aside_certificate = record {
 abbrev aside_tree : Tree
 aside_tree = Branch (Offset 1 (negsuc 0)) (Ends (Bound (pair 1 (negsuc 0) ∷ []))) (Ends (Bound (pair 1 (pos 1) ∷ [])))
 
-aside_sound : IsSound None (net_of aside) aside_table (Some 5) aside_tree aside_root
+aside_sound : IsSound (Plain (Some 5)) (net_of aside) aside_table aside_tree aside_root
 aside_sound = ((omega arith, omega arith), (one_pair (negsuc 0), le_z_yes tt), (one_pair (pos 1), le_z_yes tt))
 
 aside_timetable : IsTimetableOfCost aside (0 ∷ 0 ∷ []) 5
@@ -180,33 +180,33 @@ aside_walk = single (IsWalk (arcs_of aside)) (plus 1 ∷ minus 2 ∷ []) (
 )
 
 aside_valid : IsValid None aside aside_certificate
-aside_valid = record { period = refl; answer = (refl, aside_timetable); cycles = aside_walk; marks = tt; tree = (aside_tree, refl, aside_sound) }
+aside_valid = record { shown = tt; period = refl; answer = (refl, aside_timetable); cycles = aside_walk; tree = (aside_tree, refl, aside_sound) }
 
 -- not: the leaves exchanged, no pairs at the second part, one leaf for the whole with either sign
-exchanged : IsSoundLeaf None (net_of aside) aside_table (Some 5) (Bound (pair 1 (pos 1) ∷ [])) aside_low → ⊥
+exchanged : IsSoundLeaf (Plain (Some 5)) (net_of aside) aside_table (Bound (pair 1 (pos 1) ∷ [])) aside_low → ⊥
 exchanged s = omega (arith, s.1)
 
-no_pairs_there : IsSoundLeaf None (net_of aside) aside_table (Some 5) (Bound []) aside_high → ⊥
+no_pairs_there : IsSoundLeaf (Plain (Some 5)) (net_of aside) aside_table (Bound []) aside_high → ⊥
 no_pairs_there s = omega (arith, s.1)
 
-minus_at_root : IsSoundLeaf None (net_of aside) aside_table (Some 5) (Bound (pair 1 (negsuc 0) ∷ [])) aside_root → ⊥
+minus_at_root : IsSoundLeaf (Plain (Some 5)) (net_of aside) aside_table (Bound (pair 1 (negsuc 0) ∷ [])) aside_root → ⊥
 minus_at_root s = omega (arith, s.1)
 
-plus_at_root : IsSoundLeaf None (net_of aside) aside_table (Some 5) (Bound (pair 1 (pos 1) ∷ [])) aside_root → ⊥
+plus_at_root : IsSoundLeaf (Plain (Some 5)) (net_of aside) aside_table (Bound (pair 1 (pos 1) ∷ [])) aside_root → ⊥
 plus_at_root s = omega (arith, s.1)
 
 -- not: a nothing leaf of value exactly 0, a nothing leaf that would do with the rows' weights
-value_zero : IsSoundLeaf None (net_of aside) aside_table None (Nothing []) aside_root → ⊥
+value_zero : IsSoundLeaf (Plain None) (net_of aside) aside_table (Nothing []) aside_root → ⊥
 value_zero s = omega (arith, s.1)
 
-takes_weights : IsSoundLeaf None (net_of against) against_table None (Nothing (pair 1 (pos 1) ∷ [])) against_root → ⊥
+takes_weights : IsSoundLeaf (Plain None) (net_of against) against_table (Nothing (pair 1 (pos 1) ∷ [])) against_root → ⊥
 takes_weights s = omega (arith, s.1)
 
 -- not: a walk that doesn't close, a cycle that doesn't exist
 open_walk : IsWalk (arcs_of aside) (plus 1 ∷ plus 2 ∷ []) → ⊥
 open_walk w = omega (arith, w.1.1.0)
 
-no_such_cycle : IsSoundLeaf None (net_of aside) aside_table (Some 0) (Bound (pair 2 (pos 1) ∷ [])) aside_root → ⊥
+no_such_cycle : IsSoundLeaf (Plain (Some 0)) (net_of aside) aside_table (Bound (pair 2 (pos 1) ∷ [])) aside_root → ⊥
 no_such_cycle s = omega (arith, All-head (λ (x : Pair). Names 1 x.cycle) (pair 2 (pos 1)) [] s.0)
 
 -- ---- loops
@@ -223,6 +223,7 @@ loop_certificate = record {
 
 loop_valid : IsValid None loop loop_certificate
 loop_valid = record {
+  shown = tt;
   period = refl;
   answer = (
     refl,
@@ -236,7 +237,6 @@ loop_valid = record {
   );
   cycles = single (IsWalk (arcs_of loop)) (plus 1 ∷ [])
       (single (RowExists (arcs_of loop)) (plus 1) (omega arith, omega arith), (refl, refl));
-  marks = tt;
   tree = (Ends (Bound (pair 1 (pos 2) ∷ [])), refl, (one_pair (pos 2), le_z_yes tt));
 }
 
@@ -246,11 +246,11 @@ tight_loop_certificate = record { version = 1; period = 10; answer = Infeasible;
 
 tight_loop_valid : IsValid None tight_loop tight_loop_certificate
 tight_loop_valid = record {
+  shown = tt;
   period = refl;
   answer = refl;
   cycles = single (IsWalk (arcs_of tight_loop)) (plus 1 ∷ [])
       (single (RowExists (arcs_of tight_loop)) (plus 1) (omega arith, omega arith), (refl, refl));
-  marks = tt;
   tree = (Ends (Gap 1), refl, ((omega arith, omega arith), refl));
 }
 
@@ -271,10 +271,10 @@ no_loop_family s family supported some =
 
 propagated_loop_valid : IsValid None tight_loop propagated_loop_certificate
 propagated_loop_valid = record {
+  shown = tt;
   period = refl;
   answer = refl;
   cycles = All-nil (IsWalk (arcs_of tight_loop));
-  marks = tt;
   tree = (Ends (Shut ByPropagation), refl, (1, no_loop_family));
 }
 
@@ -291,6 +291,7 @@ large_certificate = record {
 
 large_valid : IsValid None large large_certificate
 large_valid = record {
+  shown = tt;
   period = refl;
   answer = (
     refl,
@@ -304,7 +305,6 @@ large_valid = record {
   );
   cycles = single (IsWalk (arcs_of large)) (plus 1 ∷ [])
       (single (RowExists (arcs_of large)) (plus 1) (omega arith, omega arith), (refl, refl));
-  marks = tt;
   tree = (Ends (Bound (pair 1 (pos 1000000000) ∷ [])), refl, (one_pair (pos 1000000000), le_z_yes tt));
 }
 
@@ -336,10 +336,10 @@ crossed_walks =
 
 crossed_valid : IsValid None crossed crossed_certificate
 crossed_valid = record {
+  shown = tt;
   period = refl;
   answer = refl;
   cycles = crossed_walks;
-  marks = tt;
   tree = (
     Ends (Nothing (pair 1 (pos 1) ∷ pair 2 (negsuc 0) ∷ [])),
     refl,

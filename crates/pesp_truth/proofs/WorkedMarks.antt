@@ -8,11 +8,12 @@ use Rattle.pesp_problem.specs.Timetables.{Pesp, cost}
 use Rattle.pesp_problem.specs.Arcs.{net_of}
 use Rattle.pesp_problem.specs.Nodes.{Node, root}
 use Rattle.pesp_problem.proofs.Worked.{row, plus, minus, pair, single, aside, aside_table, aside_root, aside_high}
-use Rattle.pesp_truth.specs.Trees.{Bound, IsSoundLeaf}
-use Rattle.pesp_nets.specs.declared.marked.MarkedRow.{MarkedRow}
-use Rattle.pesp_nets.specs.Marked.{rest, least_gain}
-use Rattle.pesp_nets.specs.Sharp.{sharp_cost}
-use Rattle.pesp_truth.specs.Marks.{Marks, IsNamed, multipliers, uses_walks}
+use Rattle.pesp_truth.specs.Trees.{Behind, cost_goal, Bound, IsSoundLeaf}
+use Rattle.pesp_problem.specs.declared.marked.MarkedRow.{MarkedRow}
+use Rattle.pesp_problem.specs.Marked.{rest, least_gain}
+use Rattle.pesp_problem.specs.Sharp.{sharp_cost}
+use Rattle.pesp_truth.specs.Marks.{Marks}
+use Rattle.pesp_truth.specs.Named.{IsNamed, multipliers, names_more}
 
 abbrev straight : SignedRow → MarkedRow
 straight s = record { signed = s; flipped = false }
@@ -47,7 +48,7 @@ ring_cost = refl
 ring_is_best : cost 60 ring.rows (0 ∷ 15 ∷ 35 ∷ []) ≡ 5
 ring_is_best = refl
 
-ring_sound : IsSoundLeaf (Some ring_marks) (net_of ring) [] (Some 5) (Bound (pair 1 (pos 1) ∷ [])) ring_root
+ring_sound : IsSoundLeaf (Behind ring_marks [] (cost_goal (net_of ring) (Some 5))) (net_of ring) [] (Bound (pair 1 (pos 1) ∷ [])) ring_root
 ring_sound = (single (IsNamed 0 1) (pair 1 (pos 1)) ((omega arith, omega arith), λ above. omega (arith, ints)), le_z_yes tt)
 
 -- ---- two rows side by side: behind the one cycle of the table the walk has number 2
@@ -59,7 +60,7 @@ aside_cost : sharp_cost (net_of aside) aside_table aside_root (multipliers 1 asi
 aside_cost = refl
 
 -- a leaf that names cycles alone has scale 1
-aside_scale : (uses_walks 1 (pair 1 (pos 1) ∷ []) ≡ false) × ((multipliers 1 aside_marks (pair 1 (pos 1) ∷ [])).scale ≡ 1)
+aside_scale : (names_more 1 (pair 1 (pos 1) ∷ []) ≡ false) × ((multipliers 1 aside_marks (pair 1 (pos 1) ∷ [])).scale ≡ 1)
 aside_scale = (refl, refl)
 
 -- a cycle under multiplier 5 beside it counts once, and spoils the bound: 25 + 25 - 45 = 5 by 5

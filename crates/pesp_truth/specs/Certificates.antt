@@ -1,17 +1,17 @@
 -- The contents of certificates, and when they are valid for an instance.
-use Rattle.std.specs.Prelude.{◌≡◌, ℕ, ◌<◌, List, [], map, ℤ, All, Option, Some, None, IfSome}
+use Rattle.std.specs.Prelude.{◌≡◌, ℕ, ◌+◌, ◌<◌, List, [], length, map, ℤ, All, Option, Some, None, IfSome}
+use Rattle.std.specs.List.{sum_by}
 use Rattle.pesp_problem.specs.declared.row.SignedRow.{SignedRow}
-use Rattle.pesp_problem.specs.declared.cut.Cut.TheVariants.{Slack, Offset}
 use Rattle.pesp_problem.specs.Timetables.{Pesp, IsTimetableOfCost}
-use Rattle.pesp_problem.specs.Arcs.{arcs_of, net_of}
+use Rattle.pesp_problem.specs.Arcs.{Net, arcs_of, net_of}
 use Rattle.pesp_problem.specs.Walks.{IsWalk}
 use Rattle.pesp_problem.specs.Nodes.{root}
 use Rattle.pesp_truth.specs.declared.answer.Answer.{Answer}
 use Rattle.pesp_truth.specs.declared.answer.Answer.TheVariants.{Optimal, Infeasible, Bounded}
 use Rattle.pesp_truth.specs.declared.tree.TreeLine.{TreeLine}
-use Rattle.pesp_truth.specs.declared.tree.TreeLine.TheVariants.{Slack as SlackLine, Offset as OffsetLine, Bound as BoundLine, Nothing as NothingLine, Gap as GapLine, Propagated as PropagatedLine}
 use Rattle.pesp_truth.specs.Marks.{Marks, AreMarks}
-use Rattle.pesp_truth.specs.Trees.{Tree, Line, EndLine, CutLine, Bound, Shut, ByPropagation, Nothing, Gap, preorder, IsSound}
+use Rattle.pesp_truth.specs.Trees.{Tree, Line, Claim, Plain, Behind, cost_goal, line_of, preorder, IsSound}
+use Rattle.pesp_truth.specs.Shown.{LemmaProof, AreShownLemmas, lemmas_of, lemma_lines}
 
 -- what a certificate says: the version of its text, its period, its answer, times with the labels of their events, a
 -- table of cycles, a tree's lines
@@ -22,15 +22,6 @@ pub record Content : Type 0 where
   pub times : List (ℤ × ℕ)
   pub cycles : List (List SignedRow)
   pub tree : List TreeLine
-
--- a line of a certificate's tree, as the cut of a branch or as a leaf
-abbrev pub line_of : TreeLine → Line
-line_of (SlackLine row k) = CutLine (Slack row k)
-line_of (OffsetLine cycle k) = CutLine (Offset cycle k)
-line_of (BoundLine pairs) = EndLine (Bound pairs)
-line_of (NothingLine pairs) = EndLine (Nothing pairs)
-line_of (GapLine cycle) = EndLine (Gap cycle)
-line_of PropagatedLine = EndLine (Shut ByPropagation)
 
 -- the lines of a certificate's tree, in order
 abbrev pub lines_of : Content → List Line
@@ -67,12 +58,31 @@ ShowsAnswer p Infeasible labels times = times ≡ []
 ShowsAnswer p (Bounded least (Some c)) labels times = (least < c) × ShowsTimetable p labels times c
 ShowsAnswer p (Bounded least None) labels times = times ≡ []
 
--- the period is the instance's, the answer shows what it has to, the cycles are walks, the marked walks of a front are
--- closed, and the lines are a tree that is sound at the root
-pub record IsValid (front : Option Marks) (p : Pesp) (content : Content) : Type 0 where
+-- a scale and marked walks, and lemmas with what shows each of them
+pub record Front : Type 0 where
+  pub marks : Marks
+  pub lemmas : List LemmaProof
+
+-- how many lines a front has: the header, the scale, one for each marked walk, and those of the lemmas
+abbrev pub front_lines : Front → ℕ
+front_lines f = (2 + length f.marks.walks) + sum_by lemma_lines f.lemmas
+
+-- its lemmas are shown one after the other, and its marked walks are closed
+pub record IsShownFront (n : Net) (f : Front) : Type 0 where
+  pub lemmas : AreShownLemmas n [] f.lemmas
+  pub marks : AreMarks n.arcs f.marks
+
+-- what the tree of a certificate is to show, for a least cost
+abbrev pub claim_of : Option Front → Net → Option ℕ → Claim
+claim_of None n least = Plain least
+claim_of (Some f) n least = Behind f.marks (lemmas_of f.lemmas) (cost_goal n least)
+
+-- the front is shown, the period is the instance's, the answer shows what it has to, the cycles are walks, and the lines are a
+-- tree that is sound at the root
+pub record IsValid (front : Option Front) (p : Pesp) (content : Content) : Type 0 where
+  pub shown : IfSome front (IsShownFront (net_of p))
   pub period : content.period ≡ p.period
   pub answer : ShowsAnswer p content.answer (shown_labels content) (shown_times content)
   pub cycles : All (IsWalk (arcs_of p)) content.cycles
-  pub marks : IfSome front (AreMarks (arcs_of p))
   pub tree : (tree : Tree) × (preorder tree ≡ lines_of content)
-      × IsSound front (net_of p) content.cycles (least_of content.answer) tree (root (net_of p) content.cycles)
+      × IsSound (claim_of front (net_of p) (least_of content.answer)) (net_of p) content.cycles tree (root (net_of p) content.cycles)

@@ -87,13 +87,13 @@ line_from (inl leaf) = EndLine leaf
 line_from (inr cut) = CutLine cut
 
 -- each line comes back from its sum
-abbrev pub line_back : (line : Line) → line_from (line_to line) ≡ line
-line_back (EndLine leaf) = refl
-line_back (CutLine cut) = refl
+abbrev pub line_round_trip : (line : Line) → line_from (line_to line) ≡ line
+line_round_trip (EndLine leaf) = refl
+line_round_trip (CutLine cut) = refl
 
 -- the code of lines
 abbrev pub line_code : Coded Line
-line_code = code_by (Leaf ⊎ Cut) (coded⊎ leaf_code cut_code) line_to line_from line_back
+line_code = code_by (Leaf ⊎ Cut) (coded⊎ leaf_code cut_code) line_to line_from line_round_trip
 
 -- the first two trees become one branch
 abbrev pub join : Cut → List Tree → List Tree

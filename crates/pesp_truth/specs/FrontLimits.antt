@@ -2,7 +2,7 @@
 use Rattle.std.specs.Prelude.{◌≡◌, ℕ, ◌≤◌, Bool, ◌&&◌, true, nat_le, List, length}
 use Rattle.std.specs.List.{list_all, sum_by}
 use Rattle.pesp_problem.specs.declared.limits.TheConstants.{MOST_CYCLES, MOST_ROWS, MOST_SCALE, MOST_SIGNED_ROWS}
-use Rattle.pesp_nets.specs.declared.marked.MarkedRow.{MarkedRow}
+use Rattle.pesp_problem.specs.declared.marked.MarkedRow.{MarkedRow}
 use Rattle.pesp_truth.specs.Marks.{Marks}
 
 -- a scale from 1 up to its limit
@@ -30,11 +30,11 @@ abbrev pub are_few : ℕ → ℕ → Bool
 are_few walks rows = nat_le walks MOST_CYCLES && nat_le rows MOST_SIGNED_ROWS
 
 -- what a front may hold
-abbrev pub keeps_limits : Marks → Bool
-keeps_limits marks = is_scale marks.scale && are_few (length marks.walks) (total_rows marks.walks) && list_all is_walk marks.walks
+abbrev pub marks_keep_limits : Marks → Bool
+marks_keep_limits marks = is_scale marks.scale && are_few (length marks.walks) (total_rows marks.walks) && list_all is_walk marks.walks
 
 -- the same as facts
-pub record KeepsLimits (marks : Marks) : Type 0 where
+pub record MarksKeepLimits (marks : Marks) : Type 0 where
   pub scale : (1 ≤ marks.scale) × (marks.scale ≤ MOST_SCALE)
   pub walks : length marks.walks ≤ MOST_CYCLES
   pub rows : total_rows marks.walks ≤ MOST_SIGNED_ROWS

@@ -1,8 +1,13 @@
 pub mod Marks
 pub mod FrontLimits
+pub mod Lemmas
+pub mod Limits
+pub mod LemmaLeaves
+pub mod Named
 pub mod Trees
 pub mod Paths
 pub mod Truth
+pub mod Shown
 pub mod Certificates
 pub mod Leaves
 pub mod Codes

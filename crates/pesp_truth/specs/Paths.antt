@@ -16,6 +16,6 @@ beside node cut Low = high_part node cut ∷ []
 beside node cut High = []
 
 -- what waits beside all steps of a path, in the order in which preorder comes to it
-abbrev pub waiting : Node → List (Cut × Side) → List Node
-waiting node [] = []
-waiting node (step ∷ path) = waiting (part node step.0 step.1) path ++ beside node step.0 step.1
+abbrev pub waiting_beside : Node → List (Cut × Side) → List Node
+waiting_beside node [] = []
+waiting_beside node (step ∷ path) = waiting_beside (part node step.0 step.1) path ++ beside node step.0 step.1

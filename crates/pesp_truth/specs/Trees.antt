@@ -1,15 +1,19 @@
 -- Trees of leaves and cuts, when they are sound, and their lines in preorder.
-use Rattle.std.specs.Prelude.{ℕ, zero, suc, ◌-◌, List, [], ◌∷◌, ◌++◌, length, ℤ, pos, ◌≤ℤ◌, ◌<ℤ◌, All, Option, Some, None, IsNone, IsSomeAnd, Bool, true, false}
+use Rattle.std.specs.Prelude.{ℕ, zero, suc, ◌+◌, ◌-◌, List, [], ◌∷◌, ◌++◌, map, length, ℤ, pos, ◌*ℤ◌, ◌≤ℤ◌, ◌<ℤ◌, All, Option, Some, None, option_map, IsNone, IsSomeAnd, Bool, true, false}
 use Rattle.pesp_problem.specs.declared.row.SignedRow.{SignedRow}
 use Rattle.pesp_problem.specs.declared.pair.Pair.{Pair}
 use Rattle.pesp_problem.specs.declared.cut.Cut.{Cut}
 use Rattle.pesp_problem.specs.declared.cut.Cut.TheVariants.{Slack, Offset}
-use Rattle.pesp_problem.specs.Arcs.{Net}
+use Rattle.pesp_problem.specs.Arcs.{Net, arc_at, over_arcs}
 use Rattle.pesp_problem.specs.Walks.{Names}
 use Rattle.pesp_problem.specs.Nodes.{Node, leaf_value, offsets_left, low_part, high_part}
 use Rattle.pesp_problem.specs.Families.{NoFamilyIsSupported}
-use Rattle.pesp_nets.specs.Sharp.{sharp_value, sharp_cost}
-use Rattle.pesp_truth.specs.Marks.{Marks, AreNamed, multipliers}
+use Rattle.pesp_truth.specs.declared.tree.TreeLine.{TreeLine}
+use Rattle.pesp_truth.specs.declared.tree.TreeLine.TheVariants.{Slack as SlackLine, Offset as OffsetLine, Bound as BoundLine, Nothing as NothingLine, Gap as GapLine, Propagated as PropagatedLine}
+use Rattle.pesp_truth.specs.Marks.{Marks, AreMarks}
+use Rattle.pesp_truth.specs.Lemmas.{Lemma, weight_at, HoldsAt}
+use Rattle.pesp_truth.specs.LemmaLeaves.{lemma_value, lemma_bound}
+use Rattle.pesp_truth.specs.Named.{AreNamed, of_lemmas, multipliers}
 
 -- why no timetable lies in a node: by pairs, by a cycle with no offset left, or because the rows support no family
 pub data Reason : Type 0 where
@@ -51,6 +55,15 @@ pub data Line : Type 0 where
   EndLine : Leaf → Line
   CutLine : Cut → Line
 
+-- a line of a certificate's tree, as the cut of a branch or as a leaf
+abbrev pub line_of : TreeLine → Line
+line_of (SlackLine row k) = CutLine (Slack row k)
+line_of (OffsetLine cycle k) = CutLine (Offset cycle k)
+line_of (BoundLine pairs) = EndLine (Bound pairs)
+line_of (NothingLine pairs) = EndLine (Nothing pairs)
+line_of (GapLine cycle) = EndLine (Gap cycle)
+line_of PropagatedLine = EndLine (Shut ByPropagation)
+
 -- a branch's cut, then its first part, then its second part
 abbrev pub preorder : Tree → List Line
 preorder (Ends leaf) = EndLine leaf ∷ []
@@ -61,46 +74,98 @@ abbrev pub CutExists : Net → List (List SignedRow) → Cut → Type 0
 CutExists n table (Slack row k) = Names (length n.arcs) row
 CutExists n table (Offset cycle k) = Names (length table) cycle
 
--- there is a value and it is at least the least cost wanted; where none is wanted no value is enough
-abbrev pub IsAtLeast : Option ℤ → Option ℕ → Type 0
-IsAtLeast value None = ⊥
-IsAtLeast value (Some least) = IsSomeAnd value (λ v. pos least ≤ℤ v)
+-- ---- what a tree is to show
 
--- ---- pairs, without a front or behind one that marks walks
+-- that under these weights the sum of weight times slack is at least this, or, where no least sum is named, that there is no
+-- timetable
+pub record Goal : Type 0 where
+  pub weights : ℕ → ℤ
+  pub least : Option ℤ
 
--- the pairs name cycles that exist, and behind a front marked walks too, these under multipliers above 0
-abbrev pub PairsExist : Option Marks → List (List SignedRow) → List Pair → Type 0
-PairsExist None table pairs = All (λ pair. Names (length table) pair.cycle) pairs
-PairsExist (Some marks) table pairs = AreNamed (length table) (length marks.walks) pairs
+-- under the net's own weights the sum is the cost
+abbrev pub cost_goal : Net → Option ℕ → Goal
+cost_goal n least = record { weights = λ i. pos (arc_at n.arcs i).weight; least = option_map pos least }
 
--- what the cost of each timetable in the node is at least, by these pairs
-abbrev pub cost_by : Option Marks → Net → List (List SignedRow) → Node → List Pair → Option ℤ
-cost_by None n table node pairs = leaf_value n table node pairs true
-cost_by (Some marks) n table node pairs = sharp_cost n table node (multipliers (length table) marks pairs)
+-- under those of a lemma it is the lemma's sum
+abbrev pub lemma_goal : Lemma → Goal
+lemma_goal fact = record { weights = weight_at fact.weights; least = Some fact.least }
 
--- the same without weights, by the scale: above 0 it shows that no timetable lies in the node
-abbrev pub lack_by : Option Marks → Net → List (List SignedRow) → Node → List Pair → Option ℤ
-lack_by None n table node pairs = leaf_value n table node pairs false
-lack_by (Some marks) n table node pairs = sharp_value n table node (multipliers (length table) marks pairs) false
+-- the sum is large enough at these slacks; where none is named no sum is
+abbrev pub IsReachedBy : Net → (ℕ → ℕ) → Goal → Type 0
+IsReachedBy n slacks goal = IsSomeAnd goal.least (λ least. least ≤ℤ over_arcs n.arcs (λ i. goal.weights i *ℤ pos (slacks i)))
+
+-- what a tree is to show, and what its leaves may name for it: without a front a least cost, by cycles alone; behind one a goal, by
+-- cycles, marked walks and lemmas
+pub data Claim : Type 0 where
+  Plain : Option ℕ → Claim
+  Behind : Marks → List Lemma → Goal → Claim
+
+-- the same claim with another least sum, or with none
+abbrev pub with_least : Claim → Option ℕ → Claim
+with_least (Plain other) least = Plain least
+with_least (Behind marks facts goal) least = Behind marks facts (record goal { least = option_map pos least })
+
+-- the goal of a claim
+abbrev pub goal_of : Net → Claim → Goal
+goal_of n (Plain least) = cost_goal n least
+goal_of n (Behind marks facts goal) = goal
+
+-- what has to be so at some slacks for its leaves to be right there: the marked walks are closed, and the lemmas hold
+abbrev pub Stands : Net → (ℕ → ℕ) → Claim → Type 0
+Stands n slacks (Plain least) = Unit {0}
+Stands n slacks (Behind marks facts goal) = AreMarks n.arcs marks × All (HoldsAt n.arcs slacks) facts
+
+-- there are a value and a least sum, and the value is at least that
+abbrev pub Reaches : Option ℤ → Option ℤ → Type 0
+Reaches value least = IsSomeAnd least (λ l. IsSomeAnd value (λ v. l ≤ℤ v))
+
+-- ---- pairs
+
+-- the pairs name cycles that exist, and behind a front marked walks and lemmas too, these under multipliers above 0
+abbrev pub PairsExist : Claim → List (List SignedRow) → List Pair → Type 0
+PairsExist (Plain least) table pairs = All (λ pair. Names (length table) pair.cycle) pairs
+PairsExist (Behind marks facts goal) table pairs = AreNamed (length table) (length marks.walks + length facts) pairs
+
+-- what the sum is at least in the node, by these pairs, under some weights: by the scale, and in whole numbers
+abbrev pub value_by : Marks → List Lemma → Net → List (List SignedRow) → Node → List Pair → (ℕ → ℤ) → Option ℤ
+value_by marks facts n table node pairs weights =
+    lemma_value n table node (multipliers (length table) marks pairs)
+    (of_lemmas (length table + length marks.walks) facts pairs) weights
+
+abbrev pub value_rounded : Marks → List Lemma → Net → List (List SignedRow) → Node → List Pair → (ℕ → ℤ) → Option ℤ
+value_rounded marks facts n table node pairs weights =
+    lemma_bound n table node (multipliers (length table) marks pairs)
+    (of_lemmas (length table + length marks.walks) facts pairs) weights
+
+-- what the sum that is claimed is at least in the node, by these pairs
+abbrev pub bound_by : Claim → Net → List (List SignedRow) → Node → List Pair → Option ℤ
+bound_by (Plain least) n table node pairs = leaf_value n table node pairs true
+bound_by (Behind marks facts goal) n table node pairs = value_rounded marks facts n table node pairs goal.weights
+
+-- the same without weights: above 0 it shows that no timetable lies in the node
+abbrev pub lack_by : Claim → Net → List (List SignedRow) → Node → List Pair → Option ℤ
+lack_by (Plain least) n table node pairs = leaf_value n table node pairs false
+lack_by (Behind marks facts goal) n table node pairs = value_by marks facts n table node pairs (λ i. pos 0)
 
 -- ---- sound trees
 
 -- the reason holds at a node; an event that no row joins always has a set, so it doesn't matter how many such events there are
-abbrev pub IsShut : Option Marks → Net → List (List SignedRow) → Reason → Node → Type 0
-IsShut front n table (ByPairs pairs) node = PairsExist front table pairs × IsSomeAnd (lack_by front n table node pairs) (λ v. pos 0 <ℤ v)
-IsShut front n table (ByGap cycle) node = Names (length table) cycle × IsNone (offsets_left n table node (cycle - 1))
-IsShut front n table ByPropagation node = (events : ℕ) × NoFamilyIsSupported n node.slacks events
+abbrev pub IsShut : Claim → Net → List (List SignedRow) → Reason → Node → Type 0
+IsShut claim n table (ByPairs pairs) node = PairsExist claim table pairs × IsSomeAnd (lack_by claim n table node pairs) (λ v. pos 0 <ℤ v)
+IsShut claim n table (ByGap cycle) node = Names (length table) cycle × IsNone (offsets_left n table node (cycle - 1))
+IsShut claim n table ByPropagation node = (events : ℕ) × NoFamilyIsSupported n node.slacks events
 
--- the leaf is sound at a node for a least cost; where none is wanted, it shows that no timetable lies in the node
-abbrev pub IsSoundLeaf : Option Marks → Net → List (List SignedRow) → Option ℕ → Leaf → Node → Type 0
-IsSoundLeaf front n table least (Bound pairs) node = PairsExist front table pairs × IsAtLeast (cost_by front n table node pairs) least
-IsSoundLeaf front n table least (Shut reason) node = IsShut front n table reason node
+-- the leaf is sound at a node for what is claimed
+abbrev pub IsSoundLeaf : Claim → Net → List (List SignedRow) → Leaf → Node → Type 0
+IsSoundLeaf claim n table (Bound pairs) node = PairsExist claim table pairs
+    × Reaches (bound_by claim n table node pairs) (goal_of n claim).least
+IsSoundLeaf claim n table (Shut reason) node = IsShut claim n table reason node
 
 -- each leaf is sound at its node, and what the branches cut exists
-abbrev pub IsSound : Option Marks → Net → List (List SignedRow) → Option ℕ → Tree → Node → Type 0
-IsSound front n table least (Ends leaf) node = IsSoundLeaf front n table least leaf node
-IsSound front n table least (Branch cut low high) node = CutExists n table cut
-    × IsSound front n table least low (low_part node cut) × IsSound front n table least high (high_part node cut)
+abbrev pub IsSound : Claim → Net → List (List SignedRow) → Tree → Node → Type 0
+IsSound claim n table (Ends leaf) node = IsSoundLeaf claim n table leaf node
+IsSound claim n table (Branch cut low high) node = CutExists n table cut
+    × IsSound claim n table low (low_part node cut) × IsSound claim n table high (high_part node cut)
 
 -- no leaf of the tree is a bound leaf
 abbrev pub HasNoBound : Tree → Type 0
@@ -111,14 +176,14 @@ HasNoBound (Branch cut low high) = HasNoBound low × HasNoBound high
 -- ---- the same over lines
 
 -- the lines are one sound tree after the other, one for each of the nodes that wait, in order
-abbrev pub AreSound : Option Marks → Net → List (List SignedRow) → Option ℕ → List Line → List Node → Type 0
-AreSound front n table least [] [] = Unit {0}
-AreSound front n table least [] (node ∷ nodes) = ⊥
-AreSound front n table least (line ∷ lines) [] = ⊥
-AreSound front n table least (EndLine leaf ∷ lines) (node ∷ nodes) = IsSoundLeaf front n table least leaf node
-    × AreSound front n table least lines nodes
-AreSound front n table least (CutLine cut ∷ lines) (node ∷ nodes) = CutExists n table cut
-    × AreSound front n table least lines (low_part node cut ∷ high_part node cut ∷ nodes)
+abbrev pub AreSound : Claim → Net → List (List SignedRow) → List Line → List Node → Type 0
+AreSound claim n table [] [] = Unit {0}
+AreSound claim n table [] (node ∷ nodes) = ⊥
+AreSound claim n table (line ∷ lines) [] = ⊥
+AreSound claim n table (EndLine leaf ∷ lines) (node ∷ nodes) = IsSoundLeaf claim n table leaf node
+    × AreSound claim n table lines nodes
+AreSound claim n table (CutLine cut ∷ lines) (node ∷ nodes) = CutExists n table cut
+    × AreSound claim n table lines (low_part node cut ∷ high_part node cut ∷ nodes)
 
 -- the lines are this many whole trees, one after the other
 abbrev pub are_trees : ℕ → List Line → Bool

@@ -1,11 +1,17 @@
 //! Certificates as values: what a solver claims, the tree that shows it, and the theorem that a valid certificate is true.
+//!
+//! Lemmas of an instance: sums of weight times slack that are large enough at every timetable, how a tree shows one, and
+//! what leaves gain that name some.
 #![tactic(auto)]
 
 mod answer;
 pub mod laws;
+mod lemma;
+pub mod lemma_laws;
 mod marks;
 mod tree;
 
 pub use answer::Answer;
+pub use lemma::{Lemma, NotLemma};
 pub use marks::{Marks, NotMarks, is_row_number, is_scale};
 pub use tree::TreeLine;

@@ -2,10 +2,9 @@
 
 ghost use Rattle.std.specs.Prelude.{◌≡◌, true, ◌&&◌, nat_le, length, IfOk, OnErr};
 ghost use Rattle.std.specs.List.{list_all};
-ghost use Rattle.pesp_truth.specs.FrontLimits.{is_row_number, are_numbered, is_scale, is_walk, total_rows, keeps_limits, KeepsLimits};
+ghost use Rattle.pesp_truth.specs.FrontLimits.{is_row_number, are_numbered, is_scale, is_walk, total_rows, marks_keep_limits, MarksKeepLimits};
 
-use pesp_nets::{MarkedRow, MarkedWalk};
-use pesp_problem::{MOST_CYCLES, MOST_ROWS, MOST_SCALE, MOST_SIGNED_ROWS};
+use pesp_problem::{MOST_CYCLES, MOST_ROWS, MOST_SCALE, MOST_SIGNED_ROWS, MarkedRow, MarkedWalk};
 use std::marker::Model;
 
 /// The scale of the leaves that name marked walks, and these walks. A leaf names them by numbers that go on from those of
@@ -19,13 +18,13 @@ pub struct Marks {
 impl Model for Marks {
     ghost use Rattle.std.specs.Prelude.{◌≡◌, true};
     ghost use Rattle.pesp_truth.specs.Marks.{Marks as SpecMarks};
-    ghost use Rattle.pesp_truth.specs.FrontLimits.{keeps_limits};
+    ghost use Rattle.pesp_truth.specs.FrontLimits.{marks_keep_limits};
 
     ghost Value = { SpecMarks };
 
     ghost view = { λ m. record { scale = m.scale; walks = m.walks.items } };
 
-    ghost invariant = { λ m. keeps_limits (record { scale = m.scale; walks = m.walks.items }) ≡ true };
+    ghost invariant = { λ m. marks_keep_limits (record { scale = m.scale; walks = m.walks.items }) ≡ true };
 }
 
 /// The parts are no front's: the scale is not 1 to 1,000,000, there are more than 100,000 walks or 10,000,000 marked rows, a
@@ -81,7 +80,7 @@ pub fn is_scale(scale: u64) -> bool
 
 /// Whether these parts may be a front's.
 fn keep_limits(scale: u32, walks: &[MarkedWalk]) -> bool
-    ensures { result ≡ keeps_limits (record { scale = scale; walks = walks.now }) }
+    ensures { result ≡ marks_keep_limits (record { scale = scale; walks = walks.now }) }
 {
     is_scale(u64::from(scale))
         && (walks.len() <= MOST_CYCLES && has_few_rows(walks))
@@ -92,7 +91,7 @@ impl Marks {
     /// The front of these parts, where they keep its limits.
     pub fn new(scale: u32, walks: Vec<MarkedWalk>) -> Result<Marks, NotMarks>
         ensures parts { IfOk result (λ m. m ≡ record { scale = scale; walks = walks.items }) }
-        ensures refused { OnErr result (¬ KeepsLimits (record {
+        ensures refused { OnErr result (¬ MarksKeepLimits (record {
           scale = scale;
           walks = walks.items;
         })) }
@@ -105,7 +104,7 @@ impl Marks {
 
     /// The front of parts that keep its limits.
     pub fn of(scale: u32, walks: Vec<MarkedWalk>) -> Marks
-        requires { keeps_limits (record { scale = scale; walks = walks.items }) ≡ true }
+        requires { marks_keep_limits (record { scale = scale; walks = walks.items }) ≡ true }
         ensures { result ≡ record { scale = scale; walks = walks.items } }
     {
         Marks { scale, walks }
@@ -114,7 +113,7 @@ impl Marks {
     /// What the multipliers of leaves that name marked walks are divided by.
     pub fn scale(&self) -> u32
         ensures value { result ≡ self.now.scale }
-        ensures limits { KeepsLimits self.now }
+        ensures limits { MarksKeepLimits self.now }
     {
         self.scale
     }
@@ -122,7 +121,7 @@ impl Marks {
     /// The marked walks in the order of their numbers.
     pub fn walks(&self) -> &[MarkedWalk]
         ensures value { result.now ≡ self.now.walks }
-        ensures limits { KeepsLimits self.now }
+        ensures limits { MarksKeepLimits self.now }
     {
         &self.walks
     }

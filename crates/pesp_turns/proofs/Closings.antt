@@ -16,32 +16,32 @@ use Rattle.pesp_problem.specs.Nodes.{Node, slack_range, cycle_at, leaf_value}
 use Rattle.pesp_problem.proofs.NetTimetables.{limits_in_order, net_timetables, net_cost-is}
 use Rattle.pesp_network.specs.declared.row.NetRow.{NetRow}
 use Rattle.pesp_network.specs.Networks.{NetworkValue, HasOpenRow, KeepsNetLimits, net_of_network, net_row_at, no_net_row}
-use Rattle.pesp_nodes.specs.Problems.{ProblemValue, net_of, IsSmallTable}
-use Rattle.pesp_machine.specs.declared.job.Job.{Job}
+use Rattle.pesp_nodes.specs.Problems.{ProblemValue, problem_net, IsSmallTable}
+use Rattle.pesp_tree.specs.declared.job.Job.{Job}
 use Rattle.pesp_problem.specs.declared.cut.Cut.{Cut}
 use Rattle.pesp_problem.specs.declared.cut.Side.{Side}
-use Rattle.pesp_machine.specs.Leaves.{told}
-use Rattle.pesp_machine.specs.States.{State, HasLeaf, IsJobLeaf, node_at, value_at, best_cost}
-use Rattle.pesp_machine.specs.Reached.{IsOrderly}
-use Rattle.pesp_machine.proofs.Costs.{costs_are_small, told_alike}
-use Rattle.pesp_machine.specs.Events.{LendsLeaf, Offers, Recalls}
+use Rattle.pesp_tree.specs.BoardLeaves.{told}
+use Rattle.pesp_tree.specs.States.{State, HasLeaf, IsJobLeaf, node_at, value_at, best_cost}
+use Rattle.pesp_tree.specs.Reached.{IsOrderly}
+use Rattle.pesp_tree.proofs.Costs.{costs_are_small, told_alike}
+use Rattle.pesp_tree.specs.Events.{LendsLeaf, Offers, Recalls}
 use Rattle.pesp_reduce.specs.Reductions.{ReducedValue, origin_place}
-use Rattle.pesp_search_laws.specs.Settled.{low_slack}
-use Rattle.pesp_search_laws.proofs.Settled.{settled_offsets, settled_value}
-use Rattle.pesp_search_laws.specs.Turns.{IsWorked}
-use Rattle.pesp_search_laws.proofs.Ends.{same_net}
-use Rattle.pesp_search_laws.proofs.Sizes.{leaf_pairs}
-use Rattle.pesp_search_laws.proofs.Turns.{settles}
-use Rattle.pesp_search_laws.specs.Lifted.{AreSlacksOf, AreWithin, weighted}
-use Rattle.pesp_search_laws.proofs.Replies.{lent_leaf}
+use Rattle.pesp_branching.specs.Settled.{low_slack}
+use Rattle.pesp_branching.proofs.Settled.{settled_offsets, settled_value}
+use Rattle.pesp_branching.specs.Turns.{IsWorked}
+use Rattle.pesp_branching.proofs.Ends.{same_net}
+use Rattle.pesp_branching.proofs.Sizes.{leaf_pairs}
+use Rattle.pesp_branching.proofs.Turns.{settles}
+use Rattle.pesp_branching.specs.Lifted.{AreSlacksOf, AreWithin, weighted}
+use Rattle.pesp_branching.proofs.Replies.{lent_leaf}
 use Rattle.pesp_turns.specs.Settling.{Settles, HaveLeastSlacks}
-use Rattle.pesp_turns.specs.Turning.{IsReached, OffersInVain}
-use Rattle.pesp_machine.proofs.OneSize.{same_path, same_pairs}
+use Rattle.pesp_turns.specs.Turning.{IsSettledByTimes, OffersInVain}
+use Rattle.pesp_tree.proofs.OneSize.{same_path, same_pairs}
 use Rattle.pesp_turns.proofs.Leasts.{AreBelowTo, none_below, more_below}
-use Rattle.pesp_search_laws.proofs.Slacks.{origin_inside, offsets_come_back, timetable_again, costs_no_more}
-use Rattle.pesp_search_laws.proofs.Tables.{any_default}
+use Rattle.pesp_branching.proofs.Slacks.{origin_inside, offsets_come_back, timetable_again, costs_no_more}
+use Rattle.pesp_branching.proofs.Tables.{any_default}
 
-some_period : (p : ProblemValue) (r : ReducedValue) (node : Node) → Settles p r node → 0 < (net_of p).period
+some_period : (p : ProblemValue) (r : ReducedValue) (node : Node) → Settles p r node → 0 < (problem_net p).period
 some_period p r node s = let e = s.searched.of.period in let some = s.searched.limits.some_period in omega (arith, e, some)
 
 -- no least slack goes beyond the span
@@ -56,7 +56,7 @@ pub whole_offsets : (p : ProblemValue) (r : ReducedValue) (node : Node) (left : 
     s.searched.walks
 whole_offsets p r node left s a c d l =
     let inside : c < length p.table = (let long = s.searched.lifted.long in omega (arith, l, long)) in
-    let there = settled_offsets (net_of p) p.table node c (some_period p r node s) s.settled s.slacks s.left inside in
+    let there = settled_offsets (problem_net p) p.table node c (some_period p r node s) s.settled s.slacks s.left inside in
     let here = subst (λ (n : Net). HasWholeOffset n (low_slack node) (cycle_at p.table c)) (same_net r.original p s.searched.of) there in
     subst (HasWholeOffset (net_of_network r.network) (slice_index left)) (any_default s.searched.walks c [] d l)
     (offsets_come_back r (cycle_at s.searched.walks c) (cycle_at p.table c)
@@ -64,7 +64,7 @@ whole_offsets p r node left s a c d l =
     (s.searched.lifted.each c l) (low_within p r node s) a here)
 
 lifted_timetable : (p : ProblemValue) (r : ReducedValue) (node : Node) (lifted : List ℕ) → Settles p r node
-    → HaveLeastSlacks r node lifted → IsNetTimetable (net_of p) p.network.events lifted
+    → HaveLeastSlacks r node lifted → IsNetTimetable (problem_net p) p.network.events lifted
 lifted_timetable p r node lifted s t =
     let e = s.searched.of.period in
     let some = s.searched.limits.some_period in
@@ -78,18 +78,18 @@ at_value value v w e h = rw e h
 worth_it : (p : ProblemValue) (r : ReducedValue) (node : Node) (lifted : List ℕ) (pairs : List Pair)
     → Settles p r node → HaveLeastSlacks r node lifted
     → All (λ (pair : Pair). (1 ≤ pair.cycle) × (pair.cycle ≤ length p.table)) pairs
-    → IsSomeAnd (leaf_value (net_of p) p.table node pairs true) (λ v. pos (net_cost (net_of p) lifted) ≤ℤ v)
+    → IsSomeAnd (leaf_value (problem_net p) p.table node pairs true) (λ v. pos (net_cost (problem_net p) lifted) ≤ℤ v)
 worth_it p r node lifted pairs s t exist =
-    let value = settled_value (net_of p) p.table node pairs true (some_period p r node s) s.settled s.slacks s.left exist in
+    let value = settled_value (problem_net p) p.table node pairs true (some_period p r node s) s.settled s.slacks s.left exist in
     let more = costs_no_more r (low_slack node) t.left t.times s.searched.reduced t.slacks t.same in
     let net = same_net r.original p s.searched.of in
-    let cost_is : net_cost (net_of p) lifted ≡ net_cost (net_of_network r.network) t.times =
+    let cost_is : net_cost (problem_net p) lifted ≡ net_cost (net_of_network r.network) t.times =
     ap (λ (n : Net). net_cost n lifted) net ∙ net_cost-is r.original lifted ∙ t.costs in
-    let sum : weighted (net_of p) (low_slack node)
+    let sum : weighted (problem_net p) (low_slack node)
     ≡ weighted (instance_net r.original) (low_slack node) = ap (λ (n : Net). weighted n (low_slack node)) net in
-    let below : pos (net_cost (net_of p) lifted) ≤ℤ weighted (net_of p) (low_slack node) = rw (cost_is, sum) more in
-    at_value (leaf_value (net_of p) p.table node pairs true) (weighted (net_of p) (low_slack node))
-    (pos (net_cost (net_of p) lifted)) value below
+    let below : pos (net_cost (problem_net p) lifted) ≤ℤ weighted (problem_net p) (low_slack node) = rw (cost_is, sum) more in
+    at_value (leaf_value (problem_net p) p.table node pairs true) (weighted (problem_net p) (low_slack node))
+    (pos (net_cost (problem_net p) lifted)) value below
 
 -- and so, once such times were offered, the leaf isn't open any more
 pub settled_turn : (p : ProblemValue) (r : ReducedValue) (node : Node) (lifted : List ℕ) (used : ℕ)
@@ -101,9 +101,9 @@ settled_turn p r node lifted used before mid after new job kept back limits smal
     let pairs = l.opens.pairs in
     let keep = leaf_pairs p before job.path.items pairs w.orderly l.opens.leaf in
     let worth = worth_it p r node lifted pairs s t (λ i d m. (keep.each i d m).names) in
-    let there : IsSomeAnd (value_at p job.path.items pairs) (λ v. pos (net_cost (net_of p) lifted) ≤ℤ v) =
-    subst (λ (x : Node). IsSomeAnd (leaf_value (net_of p) p.table x pairs true)
-    (λ v. pos (net_cost (net_of p) lifted) ≤ℤ v)) at worth in
+    let there : IsSomeAnd (value_at p job.path.items pairs) (λ v. pos (net_cost (problem_net p) lifted) ≤ℤ v) =
+    subst (λ (x : Node). IsSomeAnd (leaf_value (problem_net p) p.table x pairs true)
+    (λ v. pos (net_cost (problem_net p) lifted) ≤ℤ v)) at worth in
     settles p used before mid after new job lifted kept back limits small w l (lifted_timetable p r node lifted s t) there o c
 
 -- a number is lent with one leaf, which has one value
@@ -120,7 +120,7 @@ same_worth p state number value other pairs others a b =
 -- a leaf that is worth less than the best times cost isn't reached
 pub not_reached : (p : ProblemValue) (state : State) (number cost value : ℕ) (pairs : List Pair)
     → best_cost p state ≡ Some cost → IsJobLeaf p state number value pairs → (cost ≤ value → ⊥)
-    → IsReached p state number → ⊥
+    → IsSettledByTimes p state number → ⊥
 not_reached p state number cost value pairs best leaf more r =
     let same : cost ≡ r.cost = some_same (sym best ∙ r.best) in
     let worth = same_worth p state number value r.value pairs r.pairs leaf r.leaf in
@@ -135,18 +135,18 @@ not_at_most a b more l = (let less = leb-false a b more in absurd (omega (arith,
 
 -- the best cost once times were offered
 best_after : (p : ProblemValue) (mid new : State) (times : List ℕ) (kept : Bool)
-    → IsNetTimetable (net_of p) p.network.events times → Offers p mid times kept new
-    → (cost : ℕ) × (best_cost p new ≡ Some cost) × (cost ≤ net_cost (net_of p) times)
-best_after p mid new times true timetable o = (net_cost (net_of p) times, ap (best_cost p) o.1, omega arith)
+    → IsNetTimetable (problem_net p) p.network.events times → Offers p mid times kept new
+    → (cost : ℕ) × (best_cost p new ≡ Some cost) × (cost ≤ net_cost (problem_net p) times)
+best_after p mid new times true timetable o = (net_cost (problem_net p) times, ap (best_cost p) o.1, omega arith)
 best_after p mid new times false timetable o =
     by_cost (best_cost p mid) refl
   where
     not_less : (a b : ℕ) → (b < a → ⊥) → a ≤ b
     not_less a b not = grind arith
 
-    by_cost : (best : Option ℕ) → best_cost p mid ≡ best → (cost : ℕ) × (best_cost p new ≡ Some cost) × (cost ≤ net_cost (net_of p) times)
+    by_cost : (best : Option ℕ) → best_cost p mid ≡ best → (cost : ℕ) × (best_cost p new ≡ Some cost) × (cost ≤ net_cost (problem_net p) times)
     by_cost None e = absurd (o.0 (timetable, rw e tt))
-    by_cost (Some b) e = (b, ap (best_cost p) o.1 ∙ e, not_less b (net_cost (net_of p) times) (λ less. o.0 (timetable, rw e less)))
+    by_cost (Some b) e = (b, ap (best_cost p) o.1 ∙ e, not_less b (net_cost (problem_net p) times) (λ less. o.0 (timetable, rw e less)))
 
 offered_tree_numbers : (p : ProblemValue) (mid new : State) (times : List ℕ) (kept : Bool) (number : ℕ)
     (path : List (Cut × Side)) (pairs : List Pair) → Offers p mid times kept new → HasLeaf mid number path pairs
@@ -171,15 +171,15 @@ never_in_vain p r before mid new job limits orderly s l vain =
     by_value after small leaf (value_at p path pairs) refl worth
   where
     by_value : (after : (cost : ℕ) × (best_cost p new ≡ Some cost)
-        × (cost ≤ net_cost (net_of p) vain.offers.times))
-        → net_cost (net_of p) vain.offers.times ≤ 999900000000000000
+        × (cost ≤ net_cost (problem_net p) vain.offers.times))
+        → net_cost (problem_net p) vain.offers.times ≤ 999900000000000000
         → HasLeaf new job.number job.path.items l.opens.pairs → (value : Option ℤ)
         → value_at p job.path.items l.opens.pairs ≡ value
-        → IsSomeAnd value (λ v. pos (net_cost (net_of p) vain.offers.times) ≤ℤ v) → ⊥
+        → IsSomeAnd value (λ v. pos (net_cost (problem_net p) vain.offers.times) ≤ℤ v) → ⊥
     by_value after small leaf None e worth = absurd worth
     by_value after small leaf (Some v) e worth =
         let most = after.2 in
-        let under : pos (net_cost (net_of p) vain.offers.times) ≤ℤ v = worth in
+        let under : pos (net_cost (problem_net p) vain.offers.times) ≤ℤ v = worth in
         let some : pos 0 ≤ℤ v = omega (arith, ints, under) in
         let here : pos after.0 ≤ℤ v = omega (arith, ints, under, most) in
         let told_so : after.0 ≤ told v = (told_alike v after.0 some (omega (arith, most, small))).0 here in

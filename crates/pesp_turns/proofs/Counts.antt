@@ -6,19 +6,19 @@ use Rattle.pesp_problem.specs.declared.cut.Cut.{Cut}
 use Rattle.pesp_problem.specs.declared.cut.Side.{Side}
 use Rattle.pesp_network.specs.Networks.{KeepsNetLimits}
 use Rattle.pesp_truth.specs.Trees.{Bound}
-use Rattle.pesp_nodes.specs.Problems.{ProblemValue, net_of, IsSmallTable}
-use Rattle.pesp_machine.specs.declared.work.Work.TheVariants as works
-use Rattle.pesp_machine.specs.States.{State, IsOpen, root_of, node_at}
-use Rattle.pesp_machine.specs.Events.{Lend}
-use Rattle.pesp_machine.proofs.Runs.{step_is_orderly, least_never_falls}
+use Rattle.pesp_nodes.specs.Problems.{ProblemValue, problem_net, IsSmallTable}
+use Rattle.pesp_tree.specs.declared.work.Work.TheVariants as works
+use Rattle.pesp_tree.specs.States.{State, IsOpen, root_of, node_at}
+use Rattle.pesp_tree.specs.Events.{Lend}
+use Rattle.pesp_tree.proofs.Runs.{step_is_orderly, least_never_falls}
 use Rattle.pesp_reduce.specs.Reductions.{ReducedValue}
 use Rattle.pesp_branching.specs.Offering.{MayOffer}
-use Rattle.pesp_search_laws.specs.Rooms.{branches}
-use Rattle.pesp_search_laws.specs.Turns.{IsWorked, splits_of}
-use Rattle.pesp_search_laws.proofs.Settled.{slacks_at_root, slacks_along, paths_keep_spans}
-use Rattle.pesp_search_laws.proofs.Sizes.{large_has_many}
-use Rattle.pesp_search_laws.proofs.Spent.{given_one, offers_none, recalled_one}
-use Rattle.pesp_search_laws.proofs.Turns.{steps, closes_by_gap, offers, numbers_are_few}
+use Rattle.pesp_branching.specs.Rooms.{branches}
+use Rattle.pesp_branching.specs.Turns.{IsWorked, splits_of}
+use Rattle.pesp_branching.proofs.Settled.{slacks_at_root, slacks_along, paths_keep_spans}
+use Rattle.pesp_branching.proofs.Sizes.{large_has_many}
+use Rattle.pesp_branching.proofs.Spent.{given_one, offers_none, recalled_one}
+use Rattle.pesp_branching.proofs.Turns.{steps, closes_by_gap, offers, numbers_are_few}
 use Rattle.pesp_turns.specs.declared.ending.Ending.{Ending}
 use Rattle.pesp_turns.specs.declared.ending.Ending.TheVariants.{StepsUsed, NoneOpen, NumbersSpent, TreeTooLarge, TurnsUsed}
 use Rattle.pesp_turns.specs.declared.turn.Turn.{Turn}
@@ -73,9 +73,9 @@ node_settles p r used old new found s searched w =
     let pairs = s.lends.opens.pairs in
     record {
       searched = searched;
-      slacks = slacks_along (net_of p) p.table old.tree path (Bound pairs) (root_of p)
-          (slacks_at_root (net_of p) p.table) w.both s.lends.opens.leaf;
-      spans = paths_keep_spans (net_of p) p.table path;
+      slacks = slacks_along (problem_net p) p.table old.tree path (Bound pairs) (root_of p)
+          (slacks_at_root (problem_net p) p.table) w.both s.lends.opens.leaf;
+      spans = paths_keep_spans (problem_net p) p.table path;
       settled = s.settled;
       left = s.left;
     }

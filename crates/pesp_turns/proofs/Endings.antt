@@ -6,15 +6,15 @@ use Rattle.pesp_problem.specs.declared.cut.Cut.{Cut}
 use Rattle.pesp_problem.specs.declared.cut.Side.{Side}
 use Rattle.pesp_problem.specs.Nodes.{Node, slack_range, offset_range}
 use Rattle.pesp_nodes.specs.Problems.{ProblemValue}
-use Rattle.pesp_machine.specs.declared.job.Job.{Job}
-use Rattle.pesp_machine.specs.declared.work.Work.{Work}
-use Rattle.pesp_machine.specs.declared.work.Work.TheVariants as works
-use Rattle.pesp_machine.specs.States.{State, Ticket, Lent, Given, Recalled, IsOpen, node_at}
-use Rattle.pesp_machine.specs.Events.{LendsLeaf, Takes, Offers, Recalls}
-use Rattle.pesp_machine.proofs.Lending.{ticket_in, none_is_lent, lent_more}
+use Rattle.pesp_tree.specs.declared.job.Job.{Job}
+use Rattle.pesp_tree.specs.declared.work.Work.{Work}
+use Rattle.pesp_tree.specs.declared.work.Work.TheVariants as works
+use Rattle.pesp_tree.specs.States.{State, Ticket, Lent, Given, Recalled, IsOpen, node_at}
+use Rattle.pesp_tree.specs.Events.{LendsLeaf, Takes, Offers, Recalls}
+use Rattle.pesp_tree.proofs.Lending.{ticket_in, none_is_lent, lent_more}
 use Rattle.pesp_reduce.specs.Reductions.{ReducedValue}
 use Rattle.pesp_branching.specs.Offering.{MayOffer}
-use Rattle.pesp_search_laws.proofs.Spent.{given_one, recalled_one}
+use Rattle.pesp_branching.proofs.Spent.{given_one, recalled_one}
 use Rattle.pesp_turns.specs.declared.ending.Ending.{Ending}
 use Rattle.pesp_turns.specs.declared.ending.Ending.TheVariants.{StepsUsed, NoneOpen, NumbersSpent, TreeTooLarge, TurnsUsed}
 use Rattle.pesp_turns.specs.declared.turn.Turn.TheVariants.{Split, Closed, GivenUp, Over}

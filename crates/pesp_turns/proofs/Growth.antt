@@ -4,16 +4,16 @@ use Rattle.std.specs.Prelude.{Some, Ok}
 use Rattle.pesp_problem.specs.Nodes.{Node}
 use Rattle.pesp_truth.specs.Trees.{Tree, Bound}
 use Rattle.pesp_nodes.specs.Problems.{ProblemValue}
-use Rattle.pesp_machine.specs.declared.job.Job.{Job}
-use Rattle.pesp_machine.specs.declared.work.Work.{Work}
-use Rattle.pesp_machine.specs.declared.work.Work.TheVariants as works
-use Rattle.pesp_machine.specs.States.{State, node_at}
-use Rattle.pesp_machine.specs.Events.{Event, Lend, Give, Recall, Offer, Step, Run, LendsLeaf, Takes, Offers, Recalls}
+use Rattle.pesp_tree.specs.declared.job.Job.{Job}
+use Rattle.pesp_tree.specs.declared.work.Work.{Work}
+use Rattle.pesp_tree.specs.declared.work.Work.TheVariants as works
+use Rattle.pesp_tree.specs.States.{State, node_at}
+use Rattle.pesp_tree.specs.Events.{Event, Lend, Give, Recall, Offer, Step, Run, LendsLeaf, Takes, Offers, Recalls}
 use Rattle.pesp_reduce.specs.Reductions.{ReducedValue}
 use Rattle.pesp_branching.specs.Offering.{MayOffer}
-use Rattle.pesp_search_laws.specs.Rooms.{branches, branch_lines}
-use Rattle.pesp_search_laws.proofs.Branches.{as_lines, put_branches}
-use Rattle.pesp_search_laws.proofs.Spent.{offered_tree, recalled_tree}
+use Rattle.pesp_branching.specs.Rooms.{branches, branch_lines}
+use Rattle.pesp_branching.proofs.Branches.{as_lines, put_branches}
+use Rattle.pesp_branching.proofs.Spent.{offered_tree, recalled_tree}
 use Rattle.pesp_turns.specs.declared.ending.Ending.{Ending}
 use Rattle.pesp_turns.specs.declared.ending.Ending.TheVariants.{StepsUsed, NoneOpen, NumbersSpent, TreeTooLarge, TurnsUsed}
 use Rattle.pesp_turns.specs.declared.turn.Turn.{Turn}

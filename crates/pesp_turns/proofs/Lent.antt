@@ -8,21 +8,21 @@ use Rattle.pesp_problem.specs.declared.cut.Side.{Side}
 use Rattle.pesp_problem.specs.Nodes.{Node}
 use Rattle.pesp_network.specs.Networks.{KeepsNetLimits}
 use Rattle.pesp_truth.specs.declared.tree.TreeLine.{TreeLine}
-use Rattle.pesp_truth.specs.Trees.{Bound, Gap, IsSoundLeaf}
+use Rattle.pesp_truth.specs.Trees.{Plain, Bound, Gap, IsSoundLeaf}
 use Rattle.pesp_truth.specs.Paths.{along}
-use Rattle.pesp_nodes.specs.Problems.{ProblemValue, net_of, IsNodeOf, IsCutOf, ArePairs}
-use Rattle.pesp_machine.specs.declared.job.Job.{Job}
-use Rattle.pesp_machine.specs.declared.work.Work.{Work}
-use Rattle.pesp_machine.specs.declared.work.Work.TheVariants as works
-use Rattle.pesp_machine.specs.States.{State, IsJobLeaf, root_of, node_at}
-use Rattle.pesp_machine.specs.Events.{IsValidAt, Takes, MakesTooMuch}
-use Rattle.pesp_machine.proofs.Ranges.{cut_keeps_limits}
-use Rattle.pesp_machine.proofs.OneSize.{same_pairs}
+use Rattle.pesp_nodes.specs.Problems.{ProblemValue, problem_net, IsNodeOf, IsCutOf, ArePairs}
+use Rattle.pesp_tree.specs.declared.job.Job.{Job}
+use Rattle.pesp_tree.specs.declared.work.Work.{Work}
+use Rattle.pesp_tree.specs.declared.work.Work.TheVariants as works
+use Rattle.pesp_tree.specs.States.{State, IsJobLeaf, root_of, node_at}
+use Rattle.pesp_tree.specs.Events.{IsValidAt, Takes, MakesTooMuch}
+use Rattle.pesp_tree.proofs.Ranges.{cut_keeps_limits}
+use Rattle.pesp_tree.proofs.OneSize.{same_pairs}
 use Rattle.pesp_board.specs.Giving.{AreCuts}
 use Rattle.pesp_board.proofs.Paths.{cut_of_node}
-use Rattle.pesp_search_laws.proofs.Replies.{lent_leaf}
-use Rattle.pesp_search_laws.proofs.Sizes.{path_cuts, leaf_pairs}
-use Rattle.pesp_search_laws.proofs.Found.{found_is_valid}
+use Rattle.pesp_branching.proofs.Replies.{lent_leaf}
+use Rattle.pesp_branching.proofs.Sizes.{path_cuts, leaf_pairs}
+use Rattle.pesp_branching.proofs.Found.{found_is_valid}
 use Rattle.pesp_branching.specs.Expanding.{IsExpanded, IsStepOf}
 use Rattle.pesp_turns.specs.Handing.{IsJustLent, IsHandedIn, IsSplitAt, IsGiven, IsStepGiven}
 
@@ -73,7 +73,7 @@ handed p state job work l valid = record {
 }
 
 pub handed_gap : (p : ProblemValue) (state : State) (job : Job) (cycle : ℕ) → IsJustLent p state job
-    → IsSoundLeaf None (net_of p) p.table None (Gap cycle) (node_at p job.path.items)
+    → IsSoundLeaf (Plain None) (problem_net p) p.table (Gap cycle) (node_at p job.path.items)
     → IsHandedIn p state job (works.Gap cycle)
 handed_gap p state job cycle l gap = handed p state job (works.Gap cycle) l (gap.0, gap)
 

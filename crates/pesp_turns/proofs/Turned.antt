@@ -3,16 +3,16 @@ use Rattle.std.proofs.Common.{◌≡◌, ℕ, refl, inl, inr, Bool, true, false,
 use Rattle.std.specs.Prelude.{Result, IfOk}
 use Rattle.pesp_problem.specs.Nodes.{Node}
 use Rattle.pesp_network.specs.Networks.{KeepsNetLimits}
-use Rattle.pesp_nodes.specs.Problems.{ProblemValue, net_of, IsSmallTable}
-use Rattle.pesp_machine.specs.declared.job.Job.{Job}
-use Rattle.pesp_machine.specs.declared.work.Work.TheVariants as works
-use Rattle.pesp_machine.specs.States.{State, node_at}
-use Rattle.pesp_machine.specs.Reached.{IsOrderly}
-use Rattle.pesp_machine.specs.Events.{LendsLeaf, MakesTooMuch}
+use Rattle.pesp_nodes.specs.Problems.{ProblemValue, problem_net, IsSmallTable}
+use Rattle.pesp_tree.specs.declared.job.Job.{Job}
+use Rattle.pesp_tree.specs.declared.work.Work.TheVariants as works
+use Rattle.pesp_tree.specs.States.{State, node_at}
+use Rattle.pesp_tree.specs.Reached.{IsOrderly}
+use Rattle.pesp_tree.specs.Events.{LendsLeaf, MakesTooMuch}
 use Rattle.pesp_reduce.specs.Reductions.{ReducedValue}
 use Rattle.pesp_branching.specs.Offering.{MayOffer}
-use Rattle.pesp_search_laws.specs.Rooms.{branch_lines}
-use Rattle.pesp_search_laws.specs.Settled.{IsSettled, HaveOffsetsLeft}
+use Rattle.pesp_branching.specs.Rooms.{branch_lines}
+use Rattle.pesp_branching.specs.Settled.{IsSettled, HaveOffsetsLeft}
 use Rattle.pesp_turns.specs.declared.ending.Ending.{Ending}
 use Rattle.pesp_turns.specs.declared.ending.Ending.TheVariants.{StepsUsed, NoneOpen, NumbersSpent, TreeTooLarge, TurnsUsed}
 use Rattle.pesp_turns.specs.declared.turn.Turn.{Turn}
@@ -70,14 +70,14 @@ gap_turn p r mid new job cycle false turn l e g = subst (λ (t : Turn). IsTurn p
 -- nothing is left to cut at the leaf's node, and each cycle has an offset left
 pub settled_here : (p q : ProblemValue) (r : ReducedValue) (node : Node) (mid new : State) (job : Job)
     (found : Bool) (l : IsJustLent p mid job) → node ≡ node_at p job.path.items → q ≡ p
-    → IsSettled (net_of p) p.table node → HaveOffsetsLeft (net_of q) q.table node
+    → IsSettled (problem_net p) p.table node → HaveOffsetsLeft (problem_net q) q.table node
     → IsSettling p r node mid job.number found new → IsSettledTurn p r l.before found new
 settled_here p q r node mid new job found l at e settled left s = record {
   job = job;
   lent = mid;
   lends = l.lends;
-  settled = subst (IsSettled (net_of p) p.table) at settled;
-  left = subst (HaveOffsetsLeft (net_of p) p.table) at (subst (λ (x : ProblemValue). HaveOffsetsLeft (net_of x) x.table node) e left);
+  settled = subst (IsSettled (problem_net p) p.table) at settled;
+  left = subst (HaveOffsetsLeft (problem_net p) p.table) at (subst (λ (x : ProblemValue). HaveOffsetsLeft (problem_net x) x.table node) e left);
   settles = subst (λ (n : Node). IsSettling p r n mid job.number found new) at s;
 }
 

@@ -4,8 +4,8 @@ use Rattle.pesp_problem.specs.declared.limits.TheConstants.{MOST_PAIRS}
 use Rattle.pesp_problem.specs.declared.cut.Cut.{Cut}
 use Rattle.pesp_problem.specs.declared.cut.Side.{Side}
 use Rattle.pesp_nodes.specs.Problems.{ProblemValue}
-use Rattle.pesp_machine.specs.States.{State, IsOpen, IsAtMost, least}
-use Rattle.pesp_search_laws.specs.Turns.{IsWorked}
+use Rattle.pesp_tree.specs.States.{State, IsOpen, IsAtMost, least}
+use Rattle.pesp_branching.specs.Turns.{IsWorked}
 use Rattle.pesp_turns.specs.declared.ending.Ending.{Ending}
 use Rattle.pesp_turns.specs.declared.ending.Ending.TheVariants.{StepsUsed, NoneOpen, NumbersSpent, TreeTooLarge, TurnsUsed}
 

@@ -6,21 +6,21 @@ use Rattle.pesp_problem.specs.declared.cut.Cut.{Cut}
 use Rattle.pesp_problem.specs.declared.cut.Side.{Side}
 use Rattle.pesp_truth.specs.Trees.{Bound}
 use Rattle.pesp_truth.specs.Leaves.{IsLeafAt}
-use Rattle.pesp_nodes.specs.Problems.{ProblemValue, net_of}
-use Rattle.pesp_machine.specs.declared.work.Work.{Work}
-use Rattle.pesp_machine.specs.States.{State, Lent, IsBelow, ticket, node_at, value_at, best_cost}
-use Rattle.pesp_machine.specs.Events.{MakesTooMuch}
+use Rattle.pesp_nodes.specs.Problems.{ProblemValue, problem_net}
+use Rattle.pesp_tree.specs.declared.work.Work.{Work}
+use Rattle.pesp_tree.specs.States.{State, Lent, IsBelow, ticket, node_at, value_at, best_cost}
+use Rattle.pesp_tree.specs.Events.{MakesTooMuch}
 use Rattle.pesp_reduce.specs.Reductions.{ReducedValue}
-use Rattle.pesp_search_laws.specs.Settled.{IsSettled, HaveOffsetsLeft}
-use Rattle.pesp_search_laws.specs.Turns.{splits_of}
+use Rattle.pesp_branching.specs.Settled.{IsSettled, HaveOffsetsLeft}
+use Rattle.pesp_branching.specs.Turns.{splits_of}
 use Rattle.pesp_turns.specs.Turning.{IsSplit, IsClosed, IsSettledTurn}
 use Rattle.pesp_turns.specs.declared.ending.Ending.{Ending}
 use Rattle.pesp_turns.specs.declared.ending.Ending.TheVariants.{StepsUsed, NoneOpen, NumbersSpent, TreeTooLarge, TurnsUsed}
 
 -- nothing is left to cut at the node to which the path leads, and each cycle has an offset left there
 pub record IsSettledAt (p : ProblemValue) (path : List (Cut × Side)) : Type 0 where
-  pub settled : IsSettled (net_of p) p.table (node_at p path)
-  pub left : HaveOffsetsLeft (net_of p) p.table (node_at p path)
+  pub settled : IsSettled (problem_net p) p.table (node_at p path)
+  pub left : HaveOffsetsLeft (problem_net p) p.table (node_at p path)
 
 -- it is so at each leaf that is lent
 abbrev pub AreLentSettled : ProblemValue → State → Type 0

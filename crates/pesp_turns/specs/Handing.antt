@@ -7,15 +7,15 @@ use Rattle.pesp_problem.specs.Nodes.{LeavesBoth}
 use Rattle.pesp_network.specs.Networks.{KeepsNetLimits}
 use Rattle.pesp_truth.specs.declared.tree.TreeLine.{TreeLine}
 use Rattle.pesp_truth.specs.Trees.{Leaf, CutExists}
-use Rattle.pesp_nodes.specs.Problems.{ProblemValue, net_of, IsSmallTable}
-use Rattle.pesp_machine.specs.declared.job.Job.{Job}
-use Rattle.pesp_machine.specs.declared.work.Work.{Work}
-use Rattle.pesp_machine.specs.declared.work.Work.TheVariants as works
-use Rattle.pesp_machine.specs.States.{State, HasLeaf, node_at}
-use Rattle.pesp_machine.specs.Reached.{IsOrderly}
-use Rattle.pesp_machine.specs.Events.{LendsLeaf, Takes, MakesTooMuch, IsValidAt}
-use Rattle.pesp_search_laws.specs.Rooms.{IsCounted}
-use Rattle.pesp_search_laws.specs.Turns.{AreStep}
+use Rattle.pesp_nodes.specs.Problems.{ProblemValue, problem_net, IsSmallTable}
+use Rattle.pesp_tree.specs.declared.job.Job.{Job}
+use Rattle.pesp_tree.specs.declared.work.Work.{Work}
+use Rattle.pesp_tree.specs.declared.work.Work.TheVariants as works
+use Rattle.pesp_tree.specs.States.{State, HasLeaf, node_at}
+use Rattle.pesp_tree.specs.Reached.{IsOrderly}
+use Rattle.pesp_tree.specs.Events.{LendsLeaf, Takes, MakesTooMuch, IsValidAt}
+use Rattle.pesp_branching.specs.Rooms.{IsCounted}
+use Rattle.pesp_branching.specs.Turns.{AreStep}
 
 -- a leaf was just lent, on a board that keeps its limits
 pub record IsJustLent (p : ProblemValue) (state : State) (job : Job) : Type 0 where
@@ -39,14 +39,14 @@ IsGiven p old number work false new = (new ≡ old) × MakesTooMuch p old number
 -- a cut that exists and counts, and leaves both sides a value at the node of the leaf that was just lent
 pub record IsSplitAt (p : ProblemValue) (state : State) (job : Job) (cut : Cut) : Type 0 where
   pub lent : IsJustLent p state job
-  pub exists : CutExists (net_of p) p.table cut
+  pub exists : CutExists (problem_net p) p.table cut
   pub both : LeavesBoth (node_at p job.path.items) cut
-  pub counted : IsCounted (net_of p) p.table cut
+  pub counted : IsCounted (problem_net p) p.table cut
 
 -- lines of a cut that counts, with a leaf on either side, are given
 pub record IsStepGiven (p : ProblemValue) (old : State) (number : ℕ) (taken : Bool) (new : State) : Type 0 where
   pub cut : Cut
-  pub counted : IsCounted (net_of p) p.table cut
+  pub counted : IsCounted (problem_net p) p.table cut
   pub lines : Vec TreeLine
   pub low : Leaf
   pub high : Leaf

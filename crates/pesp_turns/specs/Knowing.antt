@@ -1,7 +1,7 @@
 -- What is known of a problem while turns are taken.
 use Rattle.std.specs.Prelude.{◌≡◌}
 use Rattle.pesp_nodes.specs.Problems.{ProblemValue, IsNodeOf}
-use Rattle.pesp_machine.specs.States.{root_of}
+use Rattle.pesp_tree.specs.States.{root_of}
 use Rattle.pesp_branching.specs.Passing.{ArePassedRows}
 use Rattle.pesp_turns.specs.declared.known.Known.{Known}
 

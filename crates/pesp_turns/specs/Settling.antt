@@ -8,11 +8,11 @@ use Rattle.pesp_problem.specs.Forests.{AreFundamental}
 use Rattle.pesp_problem.specs.Arcs.{slacks_at}
 use Rattle.pesp_problem.specs.Nodes.{Node}
 use Rattle.pesp_network.specs.Networks.{arcs_of_network, net_of_network}
-use Rattle.pesp_nodes.specs.Problems.{ProblemValue, net_of}
-use Rattle.pesp_machine.specs.Certificates.{IsProblemOf}
+use Rattle.pesp_nodes.specs.Problems.{ProblemValue, problem_net}
+use Rattle.pesp_tree.specs.Certificates.{IsProblemOf}
 use Rattle.pesp_reduce.specs.Reductions.{ReducedValue}
-use Rattle.pesp_search_laws.specs.Settled.{low_slack, HaveSlacks, KeepSpans, IsSettled, HaveOffsetsLeft}
-use Rattle.pesp_search_laws.specs.Lifted.{IsReduced, AreLifted, AreSlacksOf}
+use Rattle.pesp_branching.specs.Settled.{low_slack, HaveSlacks, KeepSpans, IsSettled, HaveOffsetsLeft}
+use Rattle.pesp_branching.specs.Lifted.{IsReduced, AreLifted, AreSlacksOf}
 
 -- the problem is an instance's, with the lifted fundamental walks of what is left of it
 pub record IsSearched (p : ProblemValue) (r : ReducedValue) : Type 0 where
@@ -26,10 +26,10 @@ pub record IsSearched (p : ProblemValue) (r : ReducedValue) : Type 0 where
 -- a node of such a problem at which no slack range is empty, nothing is left to cut, and each cycle has an offset left
 pub record Settles (p : ProblemValue) (r : ReducedValue) (node : Node) : Type 0 where
   pub searched : IsSearched p r
-  pub slacks : HaveSlacks (net_of p) node
-  pub spans : KeepSpans (net_of p) node
-  pub settled : IsSettled (net_of p) p.table node
-  pub left : HaveOffsetsLeft (net_of p) p.table node
+  pub slacks : HaveSlacks (problem_net p) node
+  pub spans : KeepSpans (problem_net p) node
+  pub settled : IsSettled (problem_net p) p.table node
+  pub left : HaveOffsetsLeft (problem_net p) p.table node
 
 -- times of the instance that cost as much as times of what is left at which each row has its least slack
 pub record HaveLeastSlacks (r : ReducedValue) (node : Node) (lifted : List ℕ) : Type 0 where

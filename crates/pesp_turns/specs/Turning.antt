@@ -1,18 +1,18 @@
 -- A turn: a leaf is lent, and split, closed, or left as it is.
 use Rattle.std.specs.Prelude.{◌≡◌, ◌⊎◌, ℕ, ◌≤◌, List, Bool, true, false, Err, Ok, Some, None}
 use Rattle.pesp_problem.specs.Nodes.{Node}
-use Rattle.pesp_nodes.specs.Problems.{ProblemValue, net_of}
-use Rattle.pesp_machine.specs.declared.job.Job.{Job}
-use Rattle.pesp_machine.specs.declared.work.Work.{Work}
-use Rattle.pesp_machine.specs.declared.work.Work.TheVariants as works
-use Rattle.pesp_machine.specs.declared.refusal.LendRefusal.TheVariants as lending
+use Rattle.pesp_nodes.specs.Problems.{ProblemValue, problem_net}
+use Rattle.pesp_tree.specs.declared.job.Job.{Job}
+use Rattle.pesp_tree.specs.declared.work.Work.{Work}
+use Rattle.pesp_tree.specs.declared.work.Work.TheVariants as works
+use Rattle.pesp_tree.specs.declared.refusal.LendRefusal.TheVariants as lending
 use Rattle.pesp_problem.specs.declared.pair.Pair.{Pair}
-use Rattle.pesp_machine.specs.States.{State, IsJobLeaf, node_at, best_cost}
-use Rattle.pesp_machine.specs.Events.{Lends, LendsLeaf, Takes, MakesTooMuch, Offers, Recalls}
+use Rattle.pesp_tree.specs.States.{State, IsJobLeaf, node_at, best_cost}
+use Rattle.pesp_tree.specs.Events.{Lends, LendsLeaf, Takes, MakesTooMuch, Offers, Recalls}
 use Rattle.pesp_reduce.specs.Reductions.{ReducedValue}
 use Rattle.pesp_branching.specs.Offering.{MayOffer}
-use Rattle.pesp_search_laws.specs.Settled.{IsSettled, HaveOffsetsLeft}
-use Rattle.pesp_search_laws.specs.Turns.{splits_of}
+use Rattle.pesp_branching.specs.Settled.{IsSettled, HaveOffsetsLeft}
+use Rattle.pesp_branching.specs.Turns.{splits_of}
 use Rattle.pesp_turns.specs.declared.ending.Ending.{Ending}
 use Rattle.pesp_turns.specs.declared.ending.Ending.TheVariants.{StepsUsed, NoneOpen, NumbersSpent, TreeTooLarge, TurnsUsed}
 use Rattle.pesp_turns.specs.declared.turn.Turn.{Turn}
@@ -38,7 +38,7 @@ pub record IsClosed (p : ProblemValue) (old new : State) : Type 0 where
   pub takes : Takes p lent job.number (works.Gap cycle) new
 
 -- the number is lent with a leaf that is worth no less than the best times cost
-pub record IsReached (p : ProblemValue) (state : State) (number : ℕ) : Type 0 where
+pub record IsSettledByTimes (p : ProblemValue) (state : State) (number : ℕ) : Type 0 where
   pub cost : ℕ
   pub best : best_cost p state ≡ Some cost
   pub value : ℕ
@@ -57,14 +57,14 @@ pub record OffersTimes (p : ProblemValue) (r : ReducedValue) (node : Node) (old 
 pub record OffersAndRecalls (p : ProblemValue) (r : ReducedValue) (node : Node) (old : State) (number : ℕ) (new : State) : Type 0 where
   pub offered : State
   pub offers : OffersTimes p r node old offered
-  pub reached : IsReached p offered number
+  pub reached : IsSettledByTimes p offered number
   pub back : Bool
   pub recalls : Recalls offered number back new
 
 -- times are offered that don't close the leaf of the number
 pub record OffersInVain (p : ProblemValue) (r : ReducedValue) (node : Node) (old : State) (number : ℕ) (new : State) : Type 0 where
   pub offers : OffersTimes p r node old new
-  pub unreached : IsReached p new number → ⊥
+  pub unreached : IsSettledByTimes p new number → ⊥
 
 -- times are found and close the leaf of a number, which is given back; or none do, and it stays lent
 abbrev pub IsSettling : ProblemValue → ReducedValue → Node → State → ℕ → Bool → State → Type 0
@@ -76,8 +76,8 @@ pub record IsSettledTurn (p : ProblemValue) (r : ReducedValue) (old : State) (fo
   pub job : Job
   pub lent : State
   pub lends : LendsLeaf p old job lent
-  pub settled : IsSettled (net_of p) p.table (node_at p job.path.items)
-  pub left : HaveOffsetsLeft (net_of p) p.table (node_at p job.path.items)
+  pub settled : IsSettled (problem_net p) p.table (node_at p job.path.items)
+  pub left : HaveOffsetsLeft (problem_net p) p.table (node_at p job.path.items)
   pub settles : IsSettling p r (node_at p job.path.items) lent job.number found new
 
 -- a leaf is lent, and the tree would pass a limit with what is found for it

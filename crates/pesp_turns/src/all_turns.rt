@@ -3,7 +3,7 @@
 ghost use Rattle.std.specs.Prelude.{◌≡◌, ◌≤◌, IfOk};
 ghost use Rattle.pesp_problem.specs.declared.limits.TheConstants.{MOST_STEPS};
 ghost use Rattle.pesp_turns.specs.Knowing.{IsKnown};
-ghost use Rattle.pesp_search_laws.specs.Turns.{IsWorked};
+ghost use Rattle.pesp_branching.specs.Turns.{IsWorked};
 ghost use Rattle.pesp_turns.specs.Settling.{IsSearched};
 ghost use Rattle.pesp_turns.specs.Growing.{Grows};
 ghost use Rattle.pesp_turns.specs.Counting.{AreTurns};
@@ -14,7 +14,7 @@ use crate::known::Known;
 use crate::observer::Observer;
 use crate::turn::{Turn, take_turn};
 use pesp_board::Board;
-use pesp_finder::TimesFinder;
+use pesp_forest::TimesFinder;
 use pesp_problem::Memory;
 use pesp_strategy::Strategy;
 use std::alloc::Global;

@@ -1,11 +1,11 @@
 //! A leaf that is closed.
 
 ghost use Rattle.std.specs.Prelude.{◌≡◌, None, IfOk};
-ghost use Rattle.pesp_truth.specs.Trees.{Gap, IsSoundLeaf};
-ghost use Rattle.pesp_nodes.specs.Problems.{net_of, IsNodeOf};
-ghost use Rattle.pesp_machine.specs.States.{node_at};
-ghost use Rattle.pesp_machine.specs.declared.work.Work.TheVariants.{Gap as GivesGap};
-ghost use Rattle.pesp_search_laws.specs.Settled.{IsSettled};
+ghost use Rattle.pesp_truth.specs.Trees.{Plain, Gap, IsSoundLeaf};
+ghost use Rattle.pesp_nodes.specs.Problems.{problem_net, IsNodeOf};
+ghost use Rattle.pesp_tree.specs.States.{node_at};
+ghost use Rattle.pesp_tree.specs.declared.work.Work.TheVariants.{Gap as GivesGap};
+ghost use Rattle.pesp_branching.specs.Settled.{IsSettled};
 ghost use Rattle.pesp_turns.specs.Handing.{IsJustLent, IsGiven};
 ghost use Rattle.pesp_turns.specs.Turning.{turn_given, turn_found, IsTurn};
 
@@ -23,7 +23,7 @@ use std::alloc::Global;
 /// Closes the leaf that was just lent by a cycle that has no offset left; says whether that is taken.
 fn close_leaf(alloc: Global, board: &mut Board, job: &Job, cycle: u32) -> Result<bool, Memory>
     requires lent { IsJustLent board.old.problem board.old.state job.now }
-    requires gap { IsSoundLeaf None (net_of board.old.problem) board.old.problem.table None (Gap cycle)
+    requires gap { IsSoundLeaf (Plain None) (problem_net board.old.problem) board.old.problem.table (Gap cycle)
         (node_at board.old.problem job.now.path.items) }
     ensures problem { board.new.problem ≡ board.old.problem }
     ensures given { IfOk result (λ taken. IsGiven board.old.problem board.old.state job.now.number
@@ -61,7 +61,7 @@ pub(crate) fn close_at(
     requires lent { IsJustLent board.old.problem board.old.state job.now }
     requires at { node.now ≡ node_at board.old.problem job.now.path.items }
     requires node { IsNodeOf board.old.problem node.now }
-    requires settled { IsSettled (net_of board.old.problem) board.old.problem.table node.now }
+    requires settled { IsSettled (problem_net board.old.problem) board.old.problem.table node.now }
     ensures problem { board.new.problem ≡ board.old.problem }
     ensures turn { (lent : IsJustLent board.old.problem board.old.state job.now) → IfOk result
         (λ turn. IsTurn board.old.problem reduced.now lent.before turn board.new.state) }

@@ -4,8 +4,8 @@ ghost use Rattle.std.specs.Prelude.{◌≡◌, IfOk};
 ghost use Rattle.pesp_turns.specs.Handing.{IsHandedIn, IsGiven};
 
 use pesp_board::{Board, GiveRefusal, Job, Work};
+use pesp_branching::turn::valid_work_is_taken;
 use pesp_problem::Memory;
-use pesp_search_laws::turn::valid_work_is_taken;
 use std::alloc::Global;
 
 /// Gives valid work for a leaf that is lent; says whether it is taken. It isn't where the tree would pass a limit.

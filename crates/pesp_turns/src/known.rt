@@ -2,7 +2,7 @@
 
 ghost use Rattle.std.specs.Prelude.{◌≡◌, IfOk};
 ghost use Rattle.pesp_nodes.specs.Problems.{IsNodeOf};
-ghost use Rattle.pesp_machine.specs.States.{root_of};
+ghost use Rattle.pesp_tree.specs.States.{root_of};
 ghost use Rattle.pesp_branching.specs.Passing.{ArePassedRows};
 ghost use Rattle.pesp_turns.specs.Knowing.{IsKnown};
 

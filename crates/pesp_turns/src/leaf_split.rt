@@ -2,7 +2,7 @@
 
 ghost use Rattle.std.specs.Prelude.{◌≡◌, IfOk, MatchOption};
 ghost use Rattle.pesp_nodes.specs.Problems.{IsNodeOf};
-ghost use Rattle.pesp_machine.specs.States.{node_at};
+ghost use Rattle.pesp_tree.specs.States.{node_at};
 ghost use Rattle.pesp_turns.specs.Handing.{IsSplitAt, IsStepGiven};
 
 use crate::handed_work::hand_in;

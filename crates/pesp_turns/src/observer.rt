@@ -4,7 +4,7 @@ use pesp_board::Board;
 
 /// A part of a search that comes before its first turn.
 #[derive(Clone, Copy, PartialEq, Eq)]
-pub enum Part {
+pub enum SearchPhase {
     /// What is left of the instance is found.
     Reduction,
     /// A spanning forest of what is left is looked for.
@@ -19,7 +19,7 @@ pub enum Part {
 /// who wait, and nothing that they do changes what is found.
 pub trait Observer {
     /// Called when a part of the search begins that comes before its first turn.
-    fn at(&mut self, part: Part);
+    fn at(&mut self, part: SearchPhase);
 
     /// Called before the first turn of a search and after each turn, with the number of leaves that were split so far and the
     /// board as it stands.
@@ -31,7 +31,7 @@ pub trait Observer {
 pub struct Nobody;
 
 impl Observer for Nobody {
-    fn at(&mut self, _part: Part) {}
+    fn at(&mut self, _part: SearchPhase) {}
 
     fn look(&mut self, _steps_used: u32, _board: &Board) {}
 }

@@ -3,10 +3,10 @@
 ghost use Rattle.std.specs.Prelude.{◌≡◌, ◌<◌, ◌≤◌, ◌-◌, length, true, false, All, IfOk, IsSomeAnd};
 ghost use Rattle.pesp_problem.specs.Nodes.{slack_range};
 ghost use Rattle.pesp_nodes.specs.Problems.{ProblemValue};
-ghost use Rattle.pesp_search_laws.specs.Settled.{low_slack};
-ghost use Rattle.pesp_search_laws.specs.Lifted.{AreSlacksOf};
+ghost use Rattle.pesp_branching.specs.Settled.{low_slack};
+ghost use Rattle.pesp_branching.specs.Lifted.{AreSlacksOf};
 ghost use Rattle.pesp_turns.specs.Settling.{Settles, HaveLeastSlacks};
-ghost use Rattle.pesp_turns.specs.Turning.{IsReached, IsSettling};
+ghost use Rattle.pesp_turns.specs.Turning.{IsSettledByTimes, IsSettling};
 
 use pesp_board::{Board, Job};
 use pesp_network::NetRow;
@@ -65,8 +65,8 @@ fn settled_times(alloc: Global, reduced: &Reduced, node: &Node) -> Result<Option
 
 /// Whether the number is lent with a leaf that is worth no less than the best times cost.
 fn is_reached(board: &Board, number: u64) -> bool
-    ensures reached { result ≡ true → IsReached board.now.problem board.now.state number }
-    ensures unreached { result ≡ false → IsReached board.now.problem board.now.state number → ⊥ }
+    ensures reached { result ≡ true → IsSettledByTimes board.now.problem board.now.state number }
+    ensures unreached { result ≡ false → IsSettledByTimes board.now.problem board.now.state number → ⊥ }
 {
     let Some(cost) = board.best() else {
         return false;

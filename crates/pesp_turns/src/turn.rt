@@ -12,7 +12,7 @@ use crate::leaf_split::split_leaf;
 use crate::path_node::node_from;
 use pesp_board::{Board, Job, LendRefusal};
 use pesp_branching::{Advised, ask, choose, offer_met};
-use pesp_finder::TimesFinder;
+use pesp_forest::TimesFinder;
 use pesp_problem::Memory;
 use pesp_strategy::Strategy;
 use std::alloc::Global;

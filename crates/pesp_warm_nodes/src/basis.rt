@@ -1,18 +1,18 @@
 //! Bases by the names of inequalities and of cycles.
 
-use pesp_sharp_nodes::{Branch, Pool, Range};
+use pesp_sharp_nodes::{OffsetBound, Pool, Range};
 use std::alloc::{AllocError, Global};
 
 /// What a line of the program is: an inequality of the pool, or the offset of a cycle.
 #[derive(Clone, Copy, PartialEq, Eq)]
-pub(crate) enum Name {
+pub(crate) enum LineName {
     Pooled(u32),
     Offset(u32),
 }
 
 /// A cycle with the offsets that are left to it.
 #[derive(Clone, Copy)]
-pub(crate) struct Narrowed {
+pub(crate) struct NarrowedCycle {
     pub(crate) cycle: u32,
     pub(crate) range: Range,
 }
@@ -21,11 +21,11 @@ pub(crate) struct Narrowed {
 /// their span, the cycles whose offsets are bounded, and how many branches lead to it. A leaf that was given has no names yet, but
 /// a number of multipliers: it goes on from wherever the program stands, since each basis is dual feasible at each node.
 #[derive(Drop)]
-pub struct Basis {
+pub struct NodeBasis {
     pub(crate) basic: Vec<u32>,
-    pub(crate) tight: Vec<(Name, bool)>,
+    pub(crate) tight: Vec<(LineName, bool)>,
     pub(crate) up: Vec<u32>,
-    pub(crate) narrowed: Vec<Narrowed>,
+    pub(crate) narrowed: Vec<NarrowedCycle>,
     given: Option<usize>,
     pub depth: u32,
     pub is_solved_out: bool,
@@ -35,25 +35,25 @@ pub struct Basis {
 fn narrowed_by(
     alloc: Global,
     ranges: &[Range],
-    path: &[Branch],
-) -> Result<Vec<Narrowed>, AllocError> {
-    let mut narrowed: Vec<Narrowed> = Vec::new(alloc);
+    path: &[OffsetBound],
+) -> Result<Vec<NarrowedCycle>, AllocError> {
+    let mut narrowed: Vec<NarrowedCycle> = Vec::new(alloc);
     for branch in path {
         let cycle = branch.cycle;
         let is_there = narrowed.iter().any(|it| it.cycle == cycle);
         if let Some(range) = ranges.get(cycle as usize).copied()
             && !is_there
         {
-            narrowed.push(Narrowed { cycle, range })?;
+            narrowed.push(NarrowedCycle { cycle, range })?;
         }
     }
     Ok(narrowed)
 }
 
-impl Basis {
+impl NodeBasis {
     /// No basis.
-    pub(crate) fn new(alloc: Global) -> Basis {
-        Basis {
+    pub(crate) fn new(alloc: Global) -> NodeBasis {
+        NodeBasis {
             basic: Vec::new(alloc),
             tight: Vec::new(alloc),
             up: Vec::new(alloc),
@@ -68,11 +68,11 @@ impl Basis {
     pub fn given(
         alloc: Global,
         ranges: &[Range],
-        path: &[Branch],
+        path: &[OffsetBound],
         multipliers: usize,
-    ) -> Result<Basis, AllocError> {
+    ) -> Result<NodeBasis, AllocError> {
         let narrowed = narrowed_by(alloc, ranges, path)?;
-        let mut basis = Basis::new(alloc);
+        let mut basis = NodeBasis::new(alloc);
         basis.narrowed = narrowed;
         basis.given = Some(multipliers);
         basis.depth = u32::try_from(path.len()).unwrap_or(u32::MAX);
@@ -93,7 +93,7 @@ impl Basis {
     pub fn pooled(&self, alloc: Global) -> Result<Vec<u32>, AllocError> {
         let mut numbers = Vec::new(alloc);
         for (name, _) in &self.tight {
-            if let Name::Pooled(number) = *name {
+            if let LineName::Pooled(number) = *name {
                 numbers.push(number)?;
             }
         }
@@ -103,7 +103,7 @@ impl Basis {
     /// The leaf keeps its inequalities in the pool.
     pub fn keep_in(&self, pool: &mut Pool) {
         for (name, _) in &self.tight {
-            if let Name::Pooled(number) = *name {
+            if let LineName::Pooled(number) = *name {
                 pool.keep(number);
             }
         }
@@ -112,7 +112,7 @@ impl Basis {
     /// The leaf keeps them no longer.
     pub fn leave(&self, alloc: Global, pool: &mut Pool) -> Result<(), AllocError> {
         for (name, _) in &self.tight {
-            if let Name::Pooled(number) = *name {
+            if let LineName::Pooled(number) = *name {
                 pool.leave(number);
                 pool.sweep(alloc, number)?;
             }

@@ -2,8 +2,8 @@
 //! (pseudo-costs: Bénichou et al. 1971).
 
 use crate::shared::Shared;
-use pesp_offset_cuts::{Candidate, Experience, worth_trying};
-use pesp_sharp_nodes::{Limit, Setting, Side, UNIT};
+use pesp_offset_cuts::{Candidate, PseudoCosts, worth_trying};
+use pesp_sharp_nodes::{BoundSense, Limit, Setting, UNIT};
 use std::alloc::AllocError;
 
 /// How many exchanges a trial has in each part.
@@ -31,9 +31,9 @@ impl Shared {
     fn gain(
         &mut self,
         setting: &Setting,
-        experience: &mut Experience,
+        experience: &mut PseudoCosts,
         candidate: Candidate,
-        side: Side,
+        side: BoundSense,
         limit: Limit,
     ) -> Result<i128, AllocError> {
         let before = self.value();
@@ -52,15 +52,15 @@ impl Shared {
     fn score(
         &mut self,
         setting: &Setting,
-        experience: &mut Experience,
+        experience: &mut PseudoCosts,
         candidate: Candidate,
         limit: Limit,
     ) -> Result<u128, AllocError> {
         if experience.times_tried(candidate.cut.cycle) >= TRUSTED {
             return Ok(candidate.score.saturating_mul(1 << 8));
         }
-        let low = self.gain(setting, experience, candidate, Side::AtMost, limit)?;
-        let high = self.gain(setting, experience, candidate, Side::AtLeast, limit)?;
+        let low = self.gain(setting, experience, candidate, BoundSense::AtMost, limit)?;
+        let high = self.gain(setting, experience, candidate, BoundSense::AtLeast, limit)?;
         let below = low.saturating_add(LEAST_GAIN);
         let product = below.saturating_mul(high.saturating_add(LEAST_GAIN));
         Ok(u128::try_from(product).unwrap_or(0))
@@ -70,7 +70,7 @@ impl Shared {
     fn best_of(
         &mut self,
         setting: &Setting,
-        experience: &mut Experience,
+        experience: &mut PseudoCosts,
         list: &[Candidate],
         limit: Limit,
     ) -> Result<Option<Candidate>, AllocError> {
@@ -105,7 +105,7 @@ impl Shared {
     pub fn choose(
         &mut self,
         setting: &Setting,
-        experience: &mut Experience,
+        experience: &mut PseudoCosts,
         depth: u32,
         limit: Limit,
     ) -> Result<Option<Candidate>, AllocError> {
@@ -124,15 +124,15 @@ impl Shared {
 /// Notes what a part of a cut gained.
 pub fn note(
     setting: &Setting,
-    experience: &mut Experience,
+    experience: &mut PseudoCosts,
     candidate: Candidate,
-    side: Side,
+    side: BoundSense,
     gain: i128,
 ) {
     let Candidate { cut, fraction, .. } = candidate;
     let outside = match side {
-        Side::AtMost => fraction,
-        Side::AtLeast => UNIT.saturating_sub(fraction),
+        BoundSense::AtMost => fraction,
+        BoundSense::AtLeast => UNIT.saturating_sub(fraction),
     };
     let weight = setting.cycle(cut.cycle).map_or(0, |it| it.weight);
     experience.note(cut.cycle, side, gain, outside);

@@ -1,9 +1,9 @@
 //! Violated inequalities at the slacks of a node, and those that go.
 
-use crate::basis::Name;
+use crate::basis::LineName;
 use crate::shared::Shared;
-use pesp_dual_simplex::{End, ONE, rounded};
-use pesp_sharp_nodes::{Limit, Pool, Setting, Sharpener, UNIT};
+use pesp_dual_simplex::{ONE, SolveStatus, rounded};
+use pesp_sharp_nodes::{Limit, NodeSharpener, Pool, Setting, UNIT};
 use std::alloc::AllocError;
 
 /// How many rounds the root has at most.
@@ -34,7 +34,7 @@ impl Shared {
     }
 
     /// Takes in inequalities that the slacks violate; whether there are any.
-    fn find(&mut self, sharpener: &mut Sharpener, most: usize) -> Result<bool, AllocError> {
+    fn find(&mut self, sharpener: &mut NodeSharpener, most: usize) -> Result<bool, AllocError> {
         self.read_slacks(&sharpener.setting)?;
         let found = sharpener.find(&self.slacks, most, &mut self.seen)?;
         for number in &found {
@@ -48,7 +48,7 @@ impl Shared {
         let mut marks = Vec::with_capacity(self.alloc, self.names.len())?;
         for (name, tight_at) in self.names.iter().zip(self.tight_at.iter()) {
             let is_young = tight_at.saturating_add(age) > self.solves;
-            marks.push(is_young || matches!(name, Name::Offset(_)))?;
+            marks.push(is_young || matches!(name, LineName::Offset(_)))?;
         }
         Ok(marks)
     }
@@ -69,17 +69,17 @@ impl Shared {
     fn renumber(
         &mut self,
         pool: &mut Pool,
-        name: Name,
+        name: LineName,
         line: Option<u32>,
     ) -> Result<(), AllocError> {
         match (name, line) {
-            (Name::Pooled(number), None) => self.let_go(pool, number)?,
-            (Name::Pooled(number), Some(_)) => {
+            (LineName::Pooled(number), None) => self.let_go(pool, number)?,
+            (LineName::Pooled(number), Some(_)) => {
                 if let Some(slot) = self.pooled.get_mut(number as usize) {
                     *slot = line;
                 }
             }
-            (Name::Offset(number), _) => {
+            (LineName::Offset(number), _) => {
                 if let Some(slot) = self.offsets.get_mut(number as usize) {
                     *slot = line;
                 }
@@ -134,14 +134,14 @@ impl Shared {
     /// Rounds of inequalities at the root.
     pub fn look_at_root(
         &mut self,
-        sharpener: &mut Sharpener,
+        sharpener: &mut NodeSharpener,
         limit: Limit,
     ) -> Result<(), AllocError> {
         let most = (sharpener.setting.frame.rows().len() / 4).max(40);
         let mut last = 0i64;
         let mut quiet = 0u32;
         for _ in 0..ROOT_ROUNDS {
-            if self.solve_out(&sharpener.setting, limit)? != End::Best {
+            if self.solve_out(&sharpener.setting, limit)? != SolveStatus::Best {
                 return Ok(());
             }
             let value = self.value();
@@ -159,8 +159,12 @@ impl Shared {
     }
 
     /// A few rounds at a node, as long as each brings a hundredth of what is left to the limit.
-    pub fn sharpen(&mut self, sharpener: &mut Sharpener, limit: Limit) -> Result<End, AllocError> {
-        let mut end = End::Best;
+    pub fn sharpen(
+        &mut self,
+        sharpener: &mut NodeSharpener,
+        limit: Limit,
+    ) -> Result<SolveStatus, AllocError> {
+        let mut end = SolveStatus::Best;
         for _ in 0..ROUNDS {
             let before = self.value();
             let least = self.left(limit) / 100;
@@ -169,7 +173,7 @@ impl Shared {
             }
             end = self.solve_out(&sharpener.setting, limit)?;
             let is_little = self.value().saturating_sub(before) < least.min(ONE << 20);
-            if end != End::Best || is_little {
+            if end != SolveStatus::Best || is_little {
                 return Ok(end);
             }
         }

@@ -11,8 +11,8 @@ mod shared;
 mod solving;
 mod telling;
 
-pub use basis::Basis;
+pub use basis::NodeBasis;
 pub use choosing::note;
-pub use pesp_dual_simplex::End;
+pub use pesp_dual_simplex::SolveStatus;
 pub use shared::Shared;
-pub use telling::Shown;
+pub use telling::ShownBound;

@@ -1,8 +1,8 @@
 //! The ranges of offsets at nodes.
 
-use crate::basis::{Basis, Name, Narrowed};
+use crate::basis::{LineName, NarrowedCycle, NodeBasis};
 use crate::shared::{Shared, ends_of};
-use pesp_sharp_nodes::{Cut, Pool, Range, Setting, Sharpener, Side};
+use pesp_sharp_nodes::{BoundSense, NodeSharpener, OffsetCut, Pool, Range, Setting};
 use std::alloc::AllocError;
 
 impl Shared {
@@ -12,13 +12,13 @@ impl Shared {
     }
 
     /// Writes down which offsets are bounded.
-    pub(crate) fn write_ranges(&self, basis: &mut Basis) -> Result<(), AllocError> {
+    pub(crate) fn write_ranges(&self, basis: &mut NodeBasis) -> Result<(), AllocError> {
         for cycle in &self.narrowed {
             let is_there = basis.narrowed.iter().any(|it| it.cycle == *cycle);
             if let Some(range) = self.ranges.get(*cycle as usize).copied()
                 && !is_there
             {
-                basis.narrowed.push(Narrowed {
+                basis.narrowed.push(NarrowedCycle {
                     cycle: *cycle,
                     range,
                 })?;
@@ -60,7 +60,7 @@ impl Shared {
     }
 
     /// Sets the ranges of a node.
-    fn place(&mut self, setting: &Setting, basis: &Basis) -> Result<(), AllocError> {
+    fn place(&mut self, setting: &Setting, basis: &NodeBasis) -> Result<(), AllocError> {
         self.widen_all(setting)?;
         for narrowed in &basis.narrowed {
             self.set_offsets(setting, narrowed.cycle, narrowed.range)?;
@@ -74,11 +74,11 @@ impl Shared {
         &mut self,
         setting: &Setting,
         pool: &mut Pool,
-        name: Name,
+        name: LineName,
     ) -> Result<Option<u32>, AllocError> {
         match name {
-            Name::Pooled(number) => Ok(Some(self.add_pooled(pool, number)?)),
-            Name::Offset(number) => self.add_offset(setting, number),
+            LineName::Pooled(number) => Ok(Some(self.add_pooled(pool, number)?)),
+            LineName::Offset(number) => self.add_offset(setting, number),
         }
     }
 
@@ -87,7 +87,7 @@ impl Shared {
         &mut self,
         setting: &Setting,
         pool: &mut Pool,
-        basis: &Basis,
+        basis: &NodeBasis,
     ) -> Result<(), AllocError> {
         self.basis.basic.clear();
         self.basis.basic.extend_from_slice(&basis.basic)?;
@@ -103,20 +103,28 @@ impl Shared {
     }
 
     /// Goes to a node.
-    pub fn enter(&mut self, sharpener: &mut Sharpener, basis: &Basis) -> Result<(), AllocError> {
+    pub fn enter(
+        &mut self,
+        sharpener: &mut NodeSharpener,
+        basis: &NodeBasis,
+    ) -> Result<(), AllocError> {
         self.place(&sharpener.setting, basis)?;
         self.read(&sharpener.setting, &mut sharpener.pool, basis)?;
         self.simplex.take_names(&self.basis)
     }
 
     /// Goes to a node that has no names, with the basis as it stands.
-    pub fn enter_here(&mut self, setting: &Setting, basis: &Basis) -> Result<(), AllocError> {
+    pub fn enter_here(&mut self, setting: &Setting, basis: &NodeBasis) -> Result<(), AllocError> {
         self.place(setting, basis)?;
         self.simplex.refresh()
     }
 
     /// Goes to the node at which it stood before.
-    pub fn enter_carried(&mut self, setting: &Setting, basis: &Basis) -> Result<(), AllocError> {
+    pub fn enter_carried(
+        &mut self,
+        setting: &Setting,
+        basis: &NodeBasis,
+    ) -> Result<(), AllocError> {
         self.place(setting, basis)?;
         self.simplex.load(&mut self.carried)
     }
@@ -125,8 +133,8 @@ impl Shared {
     pub fn enter_part(
         &mut self,
         setting: &Setting,
-        cut: Cut,
-        side: Side,
+        cut: OffsetCut,
+        side: BoundSense,
     ) -> Result<Option<Range>, AllocError> {
         let Some(old) = self.ranges.get(cut.cycle as usize).copied() else {
             return Ok(None);
@@ -146,7 +154,7 @@ impl Shared {
     pub fn leave_part(
         &mut self,
         setting: &Setting,
-        cut: Cut,
+        cut: OffsetCut,
         old: Range,
     ) -> Result<(), AllocError> {
         self.narrowed.pop();

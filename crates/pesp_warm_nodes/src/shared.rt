@@ -1,9 +1,11 @@
 //! The linear program that all nodes share.
 
-use crate::basis::{Basis, Name};
-use pesp_dual_simplex::{MOST, Names, Simplex, State, whole};
+use crate::basis::{LineName, NodeBasis};
+use pesp_dual_simplex::{BasisNames, MOST, Simplex, State, whole};
 use pesp_inequalities::Seen;
-use pesp_sharp_nodes::{Branch, Cycle, Origin, Pool, Range, Relaxation, Setting, Sharpener, Side};
+use pesp_sharp_nodes::{
+    BoundSense, Cycle, NodeProgram, NodeSharpener, OffsetBound, Origin, Pool, Range, Setting,
+};
 use std::alloc::{AllocError, Global};
 
 /// With fewer rows primal-dual steps are soon done.
@@ -32,7 +34,7 @@ pub struct Shared {
     pub(crate) alloc: Global,
     pub(crate) unit: u32,
     pub(crate) simplex: Simplex,
-    pub(crate) names: Vec<Name>,
+    pub(crate) names: Vec<LineName>,
     pub(crate) tight_at: Vec<u64>,
     pub(crate) pooled: Vec<Option<u32>>,
     pub(crate) leasts: Vec<i64>,
@@ -44,7 +46,7 @@ pub struct Shared {
     pub(crate) dropped_at: u64,
     pub(crate) here: State,
     pub(crate) carried: State,
-    pub(crate) basis: Names,
+    pub(crate) basis: BasisNames,
     pub(crate) slacks: Vec<i64>,
     pub(crate) weights: Vec<i128>,
 }
@@ -64,13 +66,13 @@ fn is_fit(setting: &Setting) -> bool {
 }
 
 /// Whether something comes of the inequality of a program at a place.
-fn is_used(relaxation: &Relaxation, place: usize) -> bool {
+fn is_used(relaxation: &NodeProgram, place: usize) -> bool {
     let multiplier = relaxation.program.multiplier(place);
     multiplier.best > 0 || multiplier.current > 0 || relaxation.program.excess(place) < TIGHT
 }
 
 /// How many inequalities of a program have a multiplier.
-fn used_count(relaxation: &Relaxation) -> usize {
+fn used_count(relaxation: &NodeProgram) -> usize {
     (0..relaxation.members.len())
         .filter(|place| relaxation.program.multiplier(*place).best > 0)
         .count()
@@ -78,14 +80,14 @@ fn used_count(relaxation: &Relaxation) -> usize {
 
 /// The least and the greatest sum of slacks along a cycle by a range of its offset, in fixed point.
 pub(crate) fn ends_of(cycle: &Cycle, number: u32, period: i64, range: Range) -> (i64, i64) {
-    let low = Branch {
+    let low = OffsetBound {
         cycle: number,
-        side: Side::AtLeast,
+        side: BoundSense::AtLeast,
         offset: range.least,
     };
-    let high = Branch {
+    let high = OffsetBound {
         cycle: number,
-        side: Side::AtMost,
+        side: BoundSense::AtMost,
         offset: range.most,
     };
     let least = whole(cycle.least(period, low));
@@ -97,8 +99,8 @@ impl Shared {
     /// The program of a root after its rounds; None where a dual simplex isn't for it: where rows are few, numbers too great
     /// or lines too many.
     pub fn of(
-        sharpener: &mut Sharpener,
-        relaxation: &Relaxation,
+        sharpener: &mut NodeSharpener,
+        relaxation: &NodeProgram,
     ) -> Result<Option<Shared>, AllocError> {
         let setting = &sharpener.setting;
         if !is_fit(setting) || used_count(relaxation) > MOST_TIGHT {
@@ -114,7 +116,10 @@ impl Shared {
     }
 
     /// The program of inequalities of the pool, for a tree that is given; None where a dual simplex isn't for it.
-    pub fn given(sharpener: &mut Sharpener, numbers: &[u32]) -> Result<Option<Shared>, AllocError> {
+    pub fn given(
+        sharpener: &mut NodeSharpener,
+        numbers: &[u32],
+    ) -> Result<Option<Shared>, AllocError> {
         if !is_fit(&sharpener.setting) || numbers.len() > MOST_GIVEN {
             return Ok(None);
         }
@@ -154,7 +159,7 @@ impl Shared {
             dropped_at: 0,
             here: State::new(alloc),
             carried: State::new(alloc),
-            basis: Names::new(alloc),
+            basis: BasisNames::new(alloc),
             slacks: Vec::new(alloc),
             weights: Vec::new(alloc),
         })
@@ -163,8 +168,8 @@ impl Shared {
     /// Takes in the inequalities of a program of which something comes.
     fn take_used(
         &mut self,
-        sharpener: &mut Sharpener,
-        relaxation: &Relaxation,
+        sharpener: &mut NodeSharpener,
+        relaxation: &NodeProgram,
     ) -> Result<(), AllocError> {
         for (place, member) in relaxation.members.iter().enumerate() {
             if let Origin::Pooled(number) = member.origin
@@ -179,7 +184,7 @@ impl Shared {
     /// The pool keeps its inequalities no longer.
     pub fn leave(&self, pool: &mut Pool) {
         for name in &self.names {
-            if let Name::Pooled(number) = *name {
+            if let LineName::Pooled(number) = *name {
                 pool.leave(number);
             }
         }
@@ -207,7 +212,7 @@ impl Shared {
         }
         let least = whole(pool.least(number));
         let line = self.simplex.add(pool.terms(number), least, MOST)?;
-        self.names.push(Name::Pooled(number))?;
+        self.names.push(LineName::Pooled(number))?;
         self.tight_at.push(self.solves)?;
         if let Some(slot) = self.pooled.get_mut(number as usize) {
             *slot = Some(line);
@@ -239,11 +244,11 @@ impl Shared {
             return Ok(None);
         };
         let (least, most) = ends_of(cycle, number, setting.period(), range);
-        let terms = cycle.terms(self.alloc, Side::AtLeast)?;
+        let terms = cycle.terms(self.alloc, BoundSense::AtLeast)?;
         let added = self.simplex.add(&terms, least, most);
         drop(terms);
         let line = added?;
-        self.names.push(Name::Offset(number))?;
+        self.names.push(LineName::Offset(number))?;
         self.tight_at.push(self.solves)?;
         if let Some(slot) = self.offsets.get_mut(number as usize) {
             *slot = Some(line);
@@ -272,9 +277,9 @@ impl Shared {
     }
 
     /// The basis as it stands, by names.
-    pub fn basis(&mut self, depth: u32) -> Result<Basis, AllocError> {
+    pub fn basis(&mut self, depth: u32) -> Result<NodeBasis, AllocError> {
         self.simplex.name(&mut self.basis)?;
-        let mut basis = Basis::new(self.alloc);
+        let mut basis = NodeBasis::new(self.alloc);
         let written = self.write(&mut basis);
         if written.is_err() {
             drop(basis);
@@ -285,7 +290,7 @@ impl Shared {
     }
 
     /// Writes the basis down.
-    fn write(&self, basis: &mut Basis) -> Result<(), AllocError> {
+    fn write(&self, basis: &mut NodeBasis) -> Result<(), AllocError> {
         basis.basic.extend_from_slice(&self.basis.basic)?;
         basis.up.extend_from_slice(&self.basis.up)?;
         for (line, is_up) in &self.basis.tight {

@@ -1,7 +1,7 @@
 //! Solves, within a limit.
 
 use crate::shared::Shared;
-use pesp_dual_simplex::{End, ONE, parts, rounded, whole};
+use pesp_dual_simplex::{ONE, SolveStatus, parts, rounded, whole};
 use pesp_sharp_nodes::{Limit, Setting};
 use std::alloc::AllocError;
 
@@ -39,15 +39,15 @@ impl Shared {
     }
 
     /// Makes at most so many exchanges.
-    pub(crate) fn solve(&mut self, limit: Limit, most: u32) -> Result<End, AllocError> {
+    pub(crate) fn solve(&mut self, limit: Limit, most: u32) -> Result<SolveStatus, AllocError> {
         self.solves = self.solves.saturating_add(1);
         let stop = self.stop_at(limit);
         self.simplex.solve(stop, most)
     }
 
     /// Whether what was found doesn't hold in whole numbers.
-    fn is_off(&mut self, setting: &Setting, end: End) -> Result<bool, AllocError> {
-        if end == End::Ray {
+    fn is_off(&mut self, setting: &Setting, end: SolveStatus) -> Result<bool, AllocError> {
+        if end == SolveStatus::Ray {
             return Ok(self.ray_value(setting)? <= 0);
         }
         let unit = i64::from(self.unit);
@@ -58,7 +58,11 @@ impl Shared {
     }
 
     /// Solves a node; from nothing where what was found doesn't hold in whole numbers.
-    pub fn solve_out(&mut self, setting: &Setting, limit: Limit) -> Result<End, AllocError> {
+    pub fn solve_out(
+        &mut self,
+        setting: &Setting,
+        limit: Limit,
+    ) -> Result<SolveStatus, AllocError> {
         let end = self.solve(limit, MOST_EXCHANGES)?;
         if !self.is_off(setting, end)? {
             return Ok(end);
@@ -68,7 +72,7 @@ impl Shared {
     }
 
     /// Solves a part as far as a few exchanges go.
-    pub fn solve_part(&mut self, limit: Limit) -> Result<End, AllocError> {
+    pub fn solve_part(&mut self, limit: Limit) -> Result<SolveStatus, AllocError> {
         self.solve(limit, FEW_EXCHANGES)
     }
 
@@ -80,7 +84,7 @@ impl Shared {
             if self.simplex.density() > SPARSE {
                 return Ok(false);
             }
-            if end != End::Limit {
+            if end != SolveStatus::Limit {
                 return Ok(true);
             }
         }
@@ -93,19 +97,23 @@ impl Shared {
         let most = FIRST_EXCHANGES.saturating_mul(MOST_LOOKS);
         let end = self.solve(limit, most)?;
         self.simplex.settle(1)?;
-        Ok(end != End::Limit && self.simplex.density() <= SPARSE)
+        Ok(end != SolveStatus::Limit && self.simplex.density() <= SPARSE)
     }
 
     /// Solves the node from an inverse that is built anew.
-    pub fn solve_anew(&mut self, setting: &Setting, limit: Limit) -> Result<End, AllocError> {
+    pub fn solve_anew(
+        &mut self,
+        setting: &Setting,
+        limit: Limit,
+    ) -> Result<SolveStatus, AllocError> {
         self.simplex.rebuild()?;
         self.solve_out(setting, limit)
     }
 
     /// What was gained since a value, in 1/2^20; where nothing is left, all up to the limit, or as much again.
-    pub fn gain_since(&self, before: i64, end: End, limit: Limit) -> i128 {
+    pub fn gain_since(&self, before: i64, end: SolveStatus, limit: Limit) -> i128 {
         let stop = self.stop_at(limit);
-        let reached = if end == End::Ray {
+        let reached = if end == SolveStatus::Ray {
             stop.min(before.saturating_mul(2))
         } else {
             self.simplex.value().min(stop)

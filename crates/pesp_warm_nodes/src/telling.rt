@@ -1,28 +1,28 @@
 //! What multipliers show, in whole numbers.
 
-use crate::basis::Name;
+use crate::basis::LineName;
 use crate::shared::Shared;
 use pesp_dual_simplex::rounded;
-use pesp_sharp_nodes::{Branch, Limit, Setting, Side, cost_shown};
+use pesp_sharp_nodes::{BoundSense, Limit, OffsetBound, Setting, cost_shown};
 use std::alloc::AllocError;
 
 /// What a leaf shows: a cost, by multipliers of cycles and of inequalities of the pool, in units of the scale.
 #[derive(Drop)]
-pub struct Shown {
+pub struct ShownBound {
     pub bound: u64,
     pub pairs: Vec<(u32, i64)>,
     pub walks: Vec<(u32, i64)>,
 }
 
 /// The bound on an offset that a multiplier of a cycle is of.
-fn end_of(shared: &Shared, cycle: u32, multiplier: i64) -> Option<Branch> {
+fn end_of(shared: &Shared, cycle: u32, multiplier: i64) -> Option<OffsetBound> {
     let range = shared.ranges.get(cycle as usize).copied()?;
     let (side, offset) = if multiplier < 0 {
-        (Side::AtMost, range.most)
+        (BoundSense::AtMost, range.most)
     } else {
-        (Side::AtLeast, range.least)
+        (BoundSense::AtLeast, range.least)
     };
-    Some(Branch {
+    Some(OffsetBound {
         cycle,
         side,
         offset,
@@ -64,9 +64,9 @@ impl Shared {
     /// What a unit of a line's multiplier adds to the value, where its multiplier may have this sign.
     fn worth(&self, setting: &Setting, line: u32, multiplier: i64) -> Option<i128> {
         match self.names.get(line as usize).copied()? {
-            Name::Pooled(_) if multiplier < 0 => None,
-            Name::Pooled(number) => Some(i128::from(self.least_of(number)?)),
-            Name::Offset(number) => {
+            LineName::Pooled(_) if multiplier < 0 => None,
+            LineName::Pooled(number) => Some(i128::from(self.least_of(number)?)),
+            LineName::Offset(number) => {
                 let end = end_of(self, number, multiplier)?;
                 let cycle = setting.cycle(number)?;
                 let least = cycle.least(setting.period(), end);
@@ -144,8 +144,8 @@ impl Shared {
         setting: &Setting,
         list: &[(u32, i64)],
         bound: u64,
-    ) -> Result<Shown, AllocError> {
-        let mut shown = Shown {
+    ) -> Result<ShownBound, AllocError> {
+        let mut shown = ShownBound {
             bound,
             pairs: Vec::new(self.alloc),
             walks: Vec::new(self.alloc),
@@ -167,10 +167,10 @@ impl Shared {
     }
 
     /// Puts a multiplier into a leaf.
-    fn tell(&self, shown: &mut Shown, line: u32, multiplier: i64) -> Result<(), AllocError> {
+    fn tell(&self, shown: &mut ShownBound, line: u32, multiplier: i64) -> Result<(), AllocError> {
         match self.names.get(line as usize).copied() {
-            Some(Name::Pooled(number)) => shown.walks.push((number, multiplier))?,
-            Some(Name::Offset(number)) => shown.pairs.push((number, multiplier))?,
+            Some(LineName::Pooled(number)) => shown.walks.push((number, multiplier))?,
+            Some(LineName::Offset(number)) => shown.pairs.push((number, multiplier))?,
             None => {}
         }
         Ok(())
@@ -213,7 +213,7 @@ impl Shared {
     }
 
     /// What the multipliers show. Where that closes a leaf, it has none that this doesn't need.
-    pub fn shown(&mut self, setting: &Setting, limit: Limit) -> Result<Shown, AllocError> {
+    pub fn shown(&mut self, setting: &Setting, limit: Limit) -> Result<ShownBound, AllocError> {
         self.note_tight();
         self.weigh(setting, i128::from(setting.scale))?;
         let mut list = self.list_multipliers(setting)?;
@@ -227,7 +227,7 @@ impl Shared {
     }
 
     /// What the last ray shows: that nothing is left; None where it doesn't in whole numbers.
-    pub fn shown_by_ray(&mut self, setting: &Setting) -> Result<Option<Shown>, AllocError> {
+    pub fn shown_by_ray(&mut self, setting: &Setting) -> Result<Option<ShownBound>, AllocError> {
         self.weigh(setting, 0)?;
         let list = self.list_ray(setting)?;
         if self.sum_up(setting, &list) <= 0 {

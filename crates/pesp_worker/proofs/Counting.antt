@@ -3,8 +3,8 @@ use Rattle.std.proofs.Common.{◌≡◌, ℕ, ◌+◌, ◌-◌, ◌<◌, ◌≤�
 use Rattle.std.proofs.lemmas.List.{drop_all}
 use Rattle.pesp_truth.specs.declared.tree.TreeLine.{TreeLine}
 use Rattle.pesp_truth.specs.declared.tree.TreeLine.TheVariants.{Slack, Offset, Bound, Nothing, Gap, Propagated}
-use Rattle.pesp_truth.specs.Certificates.{line_of}
-use Rattle.pesp_search_laws.specs.Rooms.{branch_lines}
+use Rattle.pesp_truth.specs.Trees.{line_of}
+use Rattle.pesp_branching.specs.Rooms.{branch_lines}
 
 -- so many branches, of at most so many, are counted once k lines are read
 abbrev pub AreCounted : ℕ → List TreeLine → ℕ → ℕ → Type 0

@@ -10,23 +10,23 @@ use Rattle.pesp_network.specs.Networks.{KeepsNetLimits}
 use Rattle.pesp_truth.specs.declared.answer.Answer.{Answer}
 use Rattle.pesp_truth.specs.declared.answer.Answer.TheVariants.{Optimal, Infeasible, Bounded}
 use Rattle.pesp_truth.specs.declared.tree.TreeLine.{TreeLine}
-use Rattle.pesp_truth.specs.Trees.{Tree, Leaf, Ends, Branch, Bound, Shut, ByPropagation, EndLine, preorder}
+use Rattle.pesp_truth.specs.Trees.{Tree, Leaf, Ends, Branch, Bound, Shut, ByPropagation, EndLine, preorder, line_of}
 use Rattle.pesp_truth.specs.Leaves.{IsLeafAt}
-use Rattle.pesp_truth.specs.Certificates.{Content, line_of, cost_of, IsValid, ShowsTimetable, ShowsAnswer}
+use Rattle.pesp_truth.specs.Certificates.{Content, cost_of, IsValid, ShowsTimetable, ShowsAnswer}
 use Rattle.pesp_truth.proofs.Lines.{whole_tree}
 use Rattle.pesp_nodes.specs.Problems.{ProblemValue, IsSmallTable}
-use Rattle.pesp_machine.specs.declared.work.Work.TheVariants as works
-use Rattle.pesp_machine.specs.Leaves.{told}
-use Rattle.pesp_machine.specs.Limits.{pairs_in, IsLineOf}
-use Rattle.pesp_machine.specs.States.{State, IsJobLeaf, node_at, value_at}
-use Rattle.pesp_machine.specs.Reached.{IsOrderly}
-use Rattle.pesp_machine.specs.Events.{Takes, IsGraft, IsCheaper}
-use Rattle.pesp_machine.proofs.Sizes.{put_lines_add_up, put_pairs_add_up}
-use Rattle.pesp_machine.proofs.TreeLimits.{graft_lines}
+use Rattle.pesp_tree.specs.declared.work.Work.TheVariants as works
+use Rattle.pesp_tree.specs.BoardLeaves.{told}
+use Rattle.pesp_tree.specs.Limits.{pairs_in, IsLineOf}
+use Rattle.pesp_tree.specs.States.{State, IsJobLeaf, node_at, value_at}
+use Rattle.pesp_tree.specs.Reached.{IsOrderly}
+use Rattle.pesp_tree.specs.Events.{Takes, IsGraft, IsCheaper}
+use Rattle.pesp_tree.proofs.Sizes.{put_lines_add_up, put_pairs_add_up}
+use Rattle.pesp_tree.proofs.TreeLimits.{graft_lines}
 use Rattle.pesp_board.proofs.Certified.{lines_fit, same_pairs, all_two}
-use Rattle.pesp_search_laws.proofs.Sizes.{leaf_pairs}
-use Rattle.pesp_works.specs.Works.{WorkValue, HasText}
-use Rattle.pesp_works.proofs.LimitLaws.{work_limits_iff}
+use Rattle.pesp_branching.proofs.Sizes.{leaf_pairs}
+use Rattle.pesp_cert_items.specs.Works.{WorkValue, HasWorkText}
+use Rattle.pesp_cert_items.proofs.LimitLaws.{work_limits_iff}
 use Rattle.pesp_worker.specs.HandingIn.{AreCheaperTimes, AreTimesFor, AreShort, Fits, without_times}
 
 -- ---- texts
@@ -35,7 +35,7 @@ use Rattle.pesp_worker.specs.HandingIn.{AreCheaperTimes, AreTimesFor, AreShort, 
 part_has_text : (p : ProblemValue) (number : ℕ) (lines : List TreeLine) (part : Tree) → KeepsNetLimits p.network
     → IsSmallTable p.table → preorder part ≡ map line_of lines → All (IsLineOf p) (preorder part)
     → length (preorder part) ≤ 1000000 → sum_by pairs_in (preorder part) ≤ 20000000 → number ≤ 999999
-    → HasText (without_times number lines)
+    → HasWorkText (without_times number lines)
 part_has_text p number lines part limits table same each few pairs most =
     let long : length lines ≡ length (preorder part) = sym (length-map lines line_of) ∙ sym (ap length same) in
     let many = same_pairs lines ∙ sym (ap (sum_by pairs_in) same) in
@@ -59,7 +59,7 @@ part_has_text p number lines part limits table same each few pairs most =
     })
 
 -- times may be shown beside a tree that has a text
-pub text_with_times : (w : WorkValue) → HasText (without_times w.job w.tree) → AreShort w.times → HasText w
+pub text_with_times : (w : WorkValue) → HasWorkText (without_times w.job w.tree) → AreShort w.times → HasWorkText w
 text_with_times w text short =
     let k = (work_limits_iff (without_times w.job w.tree)).1 text in
     (work_limits_iff w).0 (record {

@@ -6,13 +6,13 @@ use Rattle.pesp_problem.specs.declared.cut.Cut.{Cut}
 use Rattle.pesp_problem.specs.declared.cut.Side.{Side}
 use Rattle.pesp_truth.specs.Trees.{Bound}
 use Rattle.pesp_nodes.specs.Problems.{ProblemValue, IsNodeOf, ArePairs}
-use Rattle.pesp_machine.specs.declared.job.Job.{Job}
-use Rattle.pesp_machine.specs.States.{State, IsJobLeaf, node_at}
-use Rattle.pesp_machine.specs.Reached.{IsOrderly}
-use Rattle.pesp_machine.specs.Events.{LendsLeaf}
+use Rattle.pesp_tree.specs.declared.job.Job.{Job}
+use Rattle.pesp_tree.specs.States.{State, IsJobLeaf, node_at}
+use Rattle.pesp_tree.specs.Reached.{IsOrderly}
+use Rattle.pesp_tree.specs.Events.{LendsLeaf}
 use Rattle.pesp_board.specs.Giving.{AreCuts}
-use Rattle.pesp_search_laws.proofs.Replies.{lent_leaf}
-use Rattle.pesp_search_laws.proofs.Sizes.{path_cuts, leaf_pairs}
+use Rattle.pesp_branching.proofs.Replies.{lent_leaf}
+use Rattle.pesp_branching.proofs.Sizes.{path_cuts, leaf_pairs}
 use Rattle.pesp_worker.specs.declared.held_leaves.Held.{Held}
 use Rattle.pesp_worker.specs.Holding.{IsHeld}
 

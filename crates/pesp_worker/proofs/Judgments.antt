@@ -6,18 +6,17 @@ use Rattle.pesp_problem.specs.declared.pair.Pair.{Pair}
 use Rattle.pesp_network.specs.Networks.{KeepsNetLimits}
 use Rattle.pesp_truth.specs.declared.tree.TreeLine.{TreeLine}
 use Rattle.pesp_truth.specs.declared.tree.TreeLine.TheVariants as lines
-use Rattle.pesp_truth.specs.Trees.{Bound, EndLine}
-use Rattle.pesp_truth.specs.Certificates.{line_of}
+use Rattle.pesp_truth.specs.Trees.{Bound, EndLine, line_of}
 use Rattle.pesp_nodes.specs.Problems.{ProblemValue, IsSmallTable}
-use Rattle.pesp_machine.specs.declared.work.Work.TheVariants as works
-use Rattle.pesp_machine.specs.declared.refusal.GiveRefusal.{GiveRefusal}
-use Rattle.pesp_machine.specs.States.{State, IsJobLeaf, value_at}
-use Rattle.pesp_machine.specs.Leaves.{told}
-use Rattle.pesp_machine.proofs.OneSize.{same_path, same_pairs}
+use Rattle.pesp_tree.specs.declared.work.Work.TheVariants as works
+use Rattle.pesp_tree.specs.declared.refusal.GiveRefusal.{GiveRefusal}
+use Rattle.pesp_tree.specs.States.{State, IsJobLeaf, value_at}
+use Rattle.pesp_tree.specs.BoardLeaves.{told}
+use Rattle.pesp_tree.proofs.OneSize.{same_path, same_pairs}
 use Rattle.pesp_problem.specs.declared.cut.Cut.{Cut}
 use Rattle.pesp_problem.specs.declared.cut.Side.{Side}
-use Rattle.pesp_machine.specs.Reached.{IsOrderly}
-use Rattle.pesp_machine.specs.Events.{Takes, Gives}
+use Rattle.pesp_tree.specs.Reached.{IsOrderly}
+use Rattle.pesp_tree.specs.Events.{Takes, Gives}
 use Rattle.pesp_worker.specs.HandingIn.{Fits, IsWholeFrom}
 use Rattle.pesp_worker.proofs.Fitting.{own_fits, taken_fits}
 

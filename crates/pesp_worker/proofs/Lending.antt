@@ -8,14 +8,14 @@ use Rattle.pesp_problem.specs.declared.cut.Side.{Side}
 use Rattle.pesp_problem.specs.declared.cut.Side.TheVariants.{Low, High}
 use Rattle.pesp_truth.specs.Trees.{Tree, Ends, Branch, preorder}
 use Rattle.pesp_nodes.specs.Problems.{ProblemValue}
-use Rattle.pesp_machine.specs.declared.job.Job.{Job}
-use Rattle.pesp_machine.specs.declared.refusal.LendRefusal.{LendRefusal}
-use Rattle.pesp_machine.specs.declared.refusal.LendRefusal.TheVariants as lending
-use Rattle.pesp_machine.specs.States.{State, Ticket, Lent, IsLentNumber}
+use Rattle.pesp_tree.specs.declared.job.Job.{Job}
+use Rattle.pesp_tree.specs.declared.refusal.LendRefusal.{LendRefusal}
+use Rattle.pesp_tree.specs.declared.refusal.LendRefusal.TheVariants as lending
+use Rattle.pesp_tree.specs.States.{State, Ticket, Lent, IsLentNumber}
 use Rattle.pesp_truth.specs.Leaves.{leaf_paths}
-use Rattle.pesp_machine.specs.Adopting.{AreOpenOf, AreNumbered, LendsEach, LendsAll}
-use Rattle.pesp_machine.proofs.Lending.{ticket_in}
-use Rattle.pesp_machine.proofs.TreeLimits.{All-second}
+use Rattle.pesp_tree.specs.Adopting.{AreOpenOf, AreNumbered, LendsEach, LendsAll}
+use Rattle.pesp_tree.proofs.Lending.{ticket_in}
+use Rattle.pesp_tree.proofs.TreeLimits.{All-second}
 
 -- no more paths lead to open leaves than there are paths
 opens_few : (p : ProblemValue) (state : State) (paths opens : List (List (Cut × Side)))

@@ -6,9 +6,9 @@ use Rattle.pesp_problem.specs.declared.cut.Side.{Side}
 use Rattle.pesp_problem.specs.Timetables.{Pesp}
 use Rattle.pesp_truth.specs.Certificates.{Content}
 use Rattle.pesp_nodes.specs.Problems.{ProblemValue}
-use Rattle.pesp_machine.specs.declared.job.Job.{Job}
-use Rattle.pesp_machine.specs.Adopting.{AreNumbered}
-use Rattle.pesp_machine.specs.States.{State, Ticket, Lent, Recalled, IsLentNumber}
+use Rattle.pesp_tree.specs.declared.job.Job.{Job}
+use Rattle.pesp_tree.specs.Adopting.{AreNumbered}
+use Rattle.pesp_tree.specs.States.{State, Ticket, Lent, Recalled, IsLentNumber}
 use Rattle.pesp_worker.specs.Lent.{IsLentFrom}
 
 -- a path for each job

@@ -7,8 +7,8 @@ use Rattle.std.proofs.lemmas.List.Elements.{All-append, All-cons, All-nil}
 use Rattle.pesp_problem.specs.Timetables.{Pesp}
 use Rattle.pesp_truth.specs.Certificates.{Content}
 use Rattle.pesp_nodes.specs.Problems.{ProblemValue}
-use Rattle.pesp_machine.specs.declared.job.Job.{Job}
-use Rattle.pesp_machine.specs.States.{State}
+use Rattle.pesp_tree.specs.declared.job.Job.{Job}
+use Rattle.pesp_tree.specs.States.{State}
 use Rattle.pesp_worker.specs.declared.jobs.OpenJob.{OpenJob}
 use Rattle.pesp_worker.specs.Lent.{IsLentFrom}
 use Rattle.pesp_worker.specs.Jobs.{HasItsValue, AreOpenJobs}

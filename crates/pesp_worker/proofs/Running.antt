@@ -7,19 +7,19 @@ use Rattle.pesp_problem.specs.Limits.{KeepsLimits}
 use Rattle.pesp_problem.specs.Arcs.{Net}
 use Rattle.pesp_problem.specs.Walks.{IsWalk}
 use Rattle.pesp_truth.specs.Certificates.{Content, IsValid}
-use Rattle.pesp_nodes.specs.Problems.{ProblemValue, net_of}
-use Rattle.pesp_machine.specs.declared.job.Job.{Job}
-use Rattle.pesp_machine.specs.declared.work.Work.TheVariants.{Tree}
-use Rattle.pesp_machine.specs.States.{State}
-use Rattle.pesp_machine.specs.Events.{Event, Give, Offer, Run}
-use Rattle.pesp_machine.specs.Adopting.{lends_of}
-use Rattle.pesp_machine.specs.Certificates.{IsCertificateOf}
-use Rattle.pesp_machine.proofs.Adopting.{lends_each_run}
-use Rattle.pesp_machine.proofs.Certified.{same_net}
-use Rattle.pesp_machine.proofs.Tightening.{later_is_not_below, later_is_not_above}
+use Rattle.pesp_nodes.specs.Problems.{ProblemValue, problem_net}
+use Rattle.pesp_tree.specs.declared.job.Job.{Job}
+use Rattle.pesp_tree.specs.declared.work.Work.TheVariants.{Tree}
+use Rattle.pesp_tree.specs.States.{State}
+use Rattle.pesp_tree.specs.Events.{Event, Give, Offer, Run}
+use Rattle.pesp_tree.specs.Adopting.{lends_of}
+use Rattle.pesp_tree.specs.Certificates.{IsCertificateOf}
+use Rattle.pesp_tree.proofs.Adopting.{lends_each_run}
+use Rattle.pesp_tree.proofs.Certified.{same_net}
+use Rattle.pesp_tree.proofs.Tightening.{later_is_not_below, later_is_not_above}
 use Rattle.pesp_cert.specs.Limits.{has_costs}
 use Rattle.pesp_board.proofs.Adopted.{bound_is_short}
-use Rattle.pesp_works.specs.Works.{WorkValue}
+use Rattle.pesp_cert_items.specs.Works.{WorkValue}
 use Rattle.pesp_worker.specs.declared.grafted.Reply.{Reply}
 use Rattle.pesp_worker.specs.declared.grafted.Grafted.{Grafted}
 use Rattle.pesp_worker.specs.Lent.{IsLentFrom}
@@ -54,9 +54,9 @@ works_lead p labels (work ∷ works) (reply ∷ replies) old new h =
 
 -- the cycles of a valid base are walks of the problem
 walks_there : (i : Pesp) (base : Content) (p : ProblemValue) (jobs : List Job) (lent : State) → IsValid None i base
-    → IsLentFrom i base p jobs lent → All (IsWalk (net_of p).arcs) p.table
+    → IsLentFrom i base p jobs lent → All (IsWalk (problem_net p).arcs) p.table
 walks_there i base p jobs lent valid b = subst
-    (λ (table : List (List SignedRow)). All (IsWalk (net_of p).arcs) table) (sym b.cycles)
+    (λ (table : List (List SignedRow)). All (IsWalk (problem_net p).arcs) table) (sym b.cycles)
     (subst (λ (n : Net). All (IsWalk n.arcs) base.cycles) (sym (same_net i p b.of)) valid.cycles)
 
 pub all_grafted : {E : Type 0} (i : Pesp) (base : Content) (p : ProblemValue) (jobs : List Job)

@@ -8,11 +8,11 @@ use Rattle.pesp_problem.specs.declared.cut.Side.TheVariants.{Low, High}
 use Rattle.pesp_truth.specs.Trees.{Tree, Leaf, Ends, Branch, Bound}
 use Rattle.pesp_truth.specs.Leaves.{IsLeafAt, put}
 use Rattle.pesp_nodes.specs.Problems.{ProblemValue}
-use Rattle.pesp_machine.specs.declared.work.Work.{Work}
-use Rattle.pesp_machine.specs.declared.refusal.GiveRefusal.{GiveRefusal}
-use Rattle.pesp_machine.specs.States.{State, Lent, Given, Recalled, HasLeaf}
-use Rattle.pesp_machine.specs.Reached.{AreLentApart}
-use Rattle.pesp_machine.specs.Events.{Takes, Gives}
+use Rattle.pesp_tree.specs.declared.work.Work.{Work}
+use Rattle.pesp_tree.specs.declared.refusal.GiveRefusal.{GiveRefusal}
+use Rattle.pesp_tree.specs.States.{State, Lent, Given, Recalled, HasLeaf}
+use Rattle.pesp_tree.specs.Reached.{AreLentApart}
+use Rattle.pesp_tree.specs.Events.{Takes, Gives}
 use Rattle.pesp_worker.specs.Holding.{KeepsOthers}
 
 -- what stands elsewhere still stands when a leaf is replaced

@@ -3,13 +3,13 @@ use Rattle.std.proofs.Common.{◌≡◌, ℕ, List, [], ◌∷◌, ◌++◌, ref
 use Rattle.std.specs.Prelude.{ℤ, Result, Err}
 use Rattle.std.specs.Global.{Vec}
 use Rattle.pesp_truth.specs.declared.tree.TreeLine.{TreeLine}
-use Rattle.pesp_machine.specs.declared.work.Work.TheVariants.{Tree}
-use Rattle.pesp_machine.specs.declared.refusal.GiveRefusal.{GiveRefusal}
-use Rattle.pesp_machine.specs.declared.refusal.GiveRefusal.TheVariants.{Memory}
-use Rattle.pesp_machine.specs.Events.{Gives}
+use Rattle.pesp_tree.specs.declared.work.Work.TheVariants.{Tree}
+use Rattle.pesp_tree.specs.declared.refusal.GiveRefusal.{GiveRefusal}
+use Rattle.pesp_tree.specs.declared.refusal.GiveRefusal.TheVariants.{Memory}
+use Rattle.pesp_tree.specs.Events.{Gives}
 use Rattle.pesp_nodes.specs.Problems.{ProblemValue}
-use Rattle.pesp_machine.specs.States.{State}
-use Rattle.pesp_works.specs.Works.{WorkValue}
+use Rattle.pesp_tree.specs.States.{State}
+use Rattle.pesp_cert_items.specs.Works.{WorkValue}
 use Rattle.pesp_worker.specs.declared.grafted.Reply.{Reply}
 use Rattle.pesp_worker.specs.Grafts.{OffersShown, TakesWork, TakesWorks}
 

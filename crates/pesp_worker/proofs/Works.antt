@@ -13,15 +13,15 @@ use Rattle.pesp_problem.specs.declared.cut.Side.{Side}
 use Rattle.pesp_problem.specs.Timetables.{Pesp}
 use Rattle.pesp_truth.specs.Certificates.{Content, cost_of}
 use Rattle.pesp_nodes.specs.Problems.{ProblemValue}
-use Rattle.pesp_machine.specs.declared.job.Job.{Job}
-use Rattle.pesp_machine.specs.States.{State, HasLeaf, IsLentNumber}
-use Rattle.pesp_machine.specs.Reached.{IsOrderly}
-use Rattle.pesp_machine.proofs.OneSize.{same_path, same_pairs}
-use Rattle.pesp_works.specs.Works.{WorkValue, HasText}
+use Rattle.pesp_tree.specs.declared.job.Job.{Job}
+use Rattle.pesp_tree.specs.States.{State, HasLeaf, IsLentNumber}
+use Rattle.pesp_tree.specs.Reached.{IsOrderly}
+use Rattle.pesp_tree.proofs.OneSize.{same_path, same_pairs}
+use Rattle.pesp_cert_items.specs.Works.{WorkValue, HasWorkText}
 use Rattle.pesp_worker.specs.Lent.{IsLentFrom}
 use Rattle.pesp_worker.specs.declared.refusal.WorkRefusal.TheVariants.{NoSuchJob}
 use Rattle.pesp_worker.specs.Holding.{KeepsOthers}
-use Rattle.pesp_worker.specs.HandingIn.{AreTimesFor, AreShort, StandsFor, IsFound, IsJudged, AreJudged, IsWholeFrom, branches_of, without_times, IsWorkOn, IsSplitBelow, AreWorksOn, AreWorkRefusal}
+use Rattle.pesp_worker.specs.HandingIn.{AreTimesFor, AreShort, StandsFor, IsFound, IsJudged, AreHandedIn, IsWholeFrom, branches_of, without_times, IsWorkOn, IsSplitBelow, AreWorksOn, AreWorkRefusal}
 use Rattle.pesp_worker.proofs.Fitting.{text_with_times}
 use Rattle.pesp_worker.proofs.Numbers.{lent_below, few_jobs}
 use Rattle.pesp_worker.proofs.Rising.{RiseFrom, rise_from_none}
@@ -132,7 +132,7 @@ judged_next p q after old now new steps left still until judged rest before work
 -- once all are judged
 pub all_judged : (p q : ProblemValue) (old now : State) (steps left : ℕ) (until : Option ℕ)
     (judged rest works : List WorkValue) → AreJudgedSoFar p q old now steps left until judged rest works
-    → AreJudged p old steps until judged works
+    → AreHandedIn p old steps until judged works
 all_judged p q old now steps left until judged rest works h = record { each = h.each; few = (let room = h.room in omega (arith, room)) }
 
 pub rise_of : (found : List WorkValue) → IsStrictlyIncreasing (map (λ (w : WorkValue). w.job) found)
@@ -158,7 +158,7 @@ one_on i base p jobs state steps until job found work lent there f j few =
           few = few;
         };
         times = subst (AreTimesFor i (cost_of base.answer)) (sym j.times) f.times;
-        text = text_with_times work (subst (λ n. HasText (without_times n work.tree)) (sym j.number)
+        text = text_with_times work (subst (λ n. HasWorkText (without_times n work.tree)) (sym j.number)
             (j.fits.text number)) (subst AreShort (sym j.times) f.short);
       },
       record {
@@ -192,7 +192,7 @@ each_on i base p jobs state steps until (job ∷ asked) (one ∷ found) (work �
 pub all_on : (i : Pesp) (base : Content) (p : ProblemValue) (jobs : List Job) (state : State) (steps : ℕ)
     (until : Option ℕ) (asked : List ℕ) (found works : List WorkValue) → IsLentFrom i base p jobs state
     → All (λ job. job < length jobs) asked → AllZip (IsFound i (cost_of base.answer)) asked found
-    → AreJudged p state steps until found works → AreWorksOn i base asked steps until works
+    → AreHandedIn p state steps until found works → AreWorksOn i base asked steps until works
 all_on i base p jobs state steps until asked found works lent there f j =
     record {
       each = each_on i base p jobs state steps until asked found works lent there f j.each j.few;

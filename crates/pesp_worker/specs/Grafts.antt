@@ -5,13 +5,13 @@ use Rattle.pesp_problem.specs.Timetables.{Pesp}
 use Rattle.pesp_truth.specs.declared.tree.TreeLine.{TreeLine}
 use Rattle.pesp_truth.specs.Certificates.{Content, IsValid, least_of, cost_of}
 use Rattle.pesp_nodes.specs.Problems.{ProblemValue}
-use Rattle.pesp_machine.specs.declared.job.Job.{Job}
-use Rattle.pesp_machine.specs.declared.work.Work.TheVariants.{Tree}
-use Rattle.pesp_machine.specs.declared.refusal.GiveRefusal.TheVariants.{Memory}
-use Rattle.pesp_machine.specs.States.{State, IsAtMost}
-use Rattle.pesp_machine.specs.Events.{Gives, Offers}
-use Rattle.pesp_machine.specs.Certificates.{IsCertificateOf}
-use Rattle.pesp_works.specs.Works.{WorkValue}
+use Rattle.pesp_tree.specs.declared.job.Job.{Job}
+use Rattle.pesp_tree.specs.declared.work.Work.TheVariants.{Tree}
+use Rattle.pesp_tree.specs.declared.refusal.GiveRefusal.TheVariants.{Memory}
+use Rattle.pesp_tree.specs.States.{State, IsAtMost}
+use Rattle.pesp_tree.specs.Events.{Gives, Offers}
+use Rattle.pesp_tree.specs.Certificates.{IsCertificateOf}
+use Rattle.pesp_cert_items.specs.Works.{WorkValue}
 use Rattle.pesp_worker.specs.declared.grafted.Reply.{Reply}
 use Rattle.pesp_worker.specs.Lent.{IsLentFrom}
 

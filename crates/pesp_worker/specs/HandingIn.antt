@@ -8,16 +8,17 @@ use Rattle.pesp_problem.specs.declared.cut.Cut.{Cut}
 use Rattle.pesp_problem.specs.declared.cut.Side.{Side}
 use Rattle.pesp_problem.specs.Timetables.{Pesp, IsTimetable, cost}
 use Rattle.pesp_truth.specs.declared.tree.TreeLine.{TreeLine}
-use Rattle.pesp_truth.specs.Certificates.{Content, line_of, cost_of}
+use Rattle.pesp_truth.specs.Certificates.{Content, cost_of}
+use Rattle.pesp_truth.specs.Trees.{line_of}
 use Rattle.pesp_nodes.specs.Problems.{ProblemValue}
 use Rattle.pesp_cert.specs.Limits.{is_time}
-use Rattle.pesp_machine.specs.declared.job.Job.{Job}
-use Rattle.pesp_machine.specs.declared.work.Work.TheVariants.{Tree}
-use Rattle.pesp_machine.specs.States.{State, HasLeaf, IsJobLeaf, node_at}
-use Rattle.pesp_machine.specs.Events.{IsValidAt, IsCheaper}
-use Rattle.pesp_search_laws.specs.Rooms.{branch_lines}
-use Rattle.pesp_works.specs.declared.job.TheConstants.{MOST_JOB}
-use Rattle.pesp_works.specs.Works.{WorkValue, HasText}
+use Rattle.pesp_tree.specs.declared.job.Job.{Job}
+use Rattle.pesp_tree.specs.declared.work.Work.TheVariants.{Tree}
+use Rattle.pesp_tree.specs.States.{State, HasLeaf, IsJobLeaf, node_at}
+use Rattle.pesp_tree.specs.Events.{IsValidAt, IsCheaper}
+use Rattle.pesp_branching.specs.Rooms.{branch_lines}
+use Rattle.pesp_cert_items.specs.declared.job.TheConstants.{MOST_JOB}
+use Rattle.pesp_cert_items.specs.Works.{WorkValue, HasWorkText}
 use Rattle.pesp_worker.specs.Lent.{IsLentFrom}
 use Rattle.pesp_worker.specs.declared.refusal.WorkRefusal.{WorkRefusal}
 use Rattle.pesp_worker.specs.declared.refusal.WorkRefusal.TheVariants.{Memory, NoSuchJob}
@@ -57,7 +58,7 @@ pub record IsWorkOn (instance : Pesp) (base : Content) (job steps : ℕ) (work :
   pub number : work.job ≡ job
   pub tree : IsTreeOn instance base job steps work.tree
   pub times : AreTimesFor instance (cost_of base.answer) work.times
-  pub text : HasText work
+  pub text : HasWorkText work
 
 -- how many branches the tree of a work has
 abbrev pub branches_of : WorkValue → ℕ
@@ -114,7 +115,7 @@ without_times job tree = record { job = job; times = []; tree = tree }
 -- the lines may stand there, and with a number that a text may have they have a text
 pub record Fits (p : ProblemValue) (state : State) (number : ℕ) (tree : List TreeLine) : Type 0 where
   pub stands : StandsFor p state number tree
-  pub text : number ≤ MOST_JOB → HasText (without_times number tree)
+  pub text : number ≤ MOST_JOB → HasWorkText (without_times number tree)
 
 -- what was found for a job: of this number, with no times or a timetable that costs less than so much, and as many as a text may have
 pub record IsFound (instance : Pesp) (known : Option ℕ) (job : ℕ) (work : WorkValue) : Type 0 where
@@ -130,6 +131,6 @@ pub record IsJudged (p : ProblemValue) (state : State) (until : Option ℕ) (fou
   pub whole : IsWholeFrom p state until found.job (branches_of work)
 
 -- all that was found, with such trees that have at most so many branches in all
-pub record AreJudged (p : ProblemValue) (state : State) (steps : ℕ) (until : Option ℕ) (found works : List WorkValue) : Type 0 where
+pub record AreHandedIn (p : ProblemValue) (state : State) (steps : ℕ) (until : Option ℕ) (found works : List WorkValue) : Type 0 where
   pub each : AllZip (IsJudged p state until) found works
   pub few : sum_by branches_of works ≤ steps

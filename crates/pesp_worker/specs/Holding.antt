@@ -3,7 +3,7 @@ use Rattle.std.specs.Prelude.{ℕ, ◌≢◌, List, length}
 use Rattle.pesp_problem.specs.declared.pair.Pair.{Pair}
 use Rattle.pesp_problem.specs.declared.cut.Cut.{Cut}
 use Rattle.pesp_problem.specs.declared.cut.Side.{Side}
-use Rattle.pesp_machine.specs.States.{State, HasLeaf}
+use Rattle.pesp_tree.specs.States.{State, HasLeaf}
 use Rattle.pesp_nodes.specs.Problems.{ProblemValue, ArePairs}
 use Rattle.pesp_board.specs.Grafting.{IsReached}
 use Rattle.pesp_worker.specs.declared.held_leaves.Held.{Held}

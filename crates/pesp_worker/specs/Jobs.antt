@@ -6,14 +6,14 @@ use Rattle.pesp_problem.specs.declared.pair.Pair.{Pair}
 use Rattle.pesp_problem.specs.Timetables.{Pesp}
 use Rattle.pesp_truth.specs.Certificates.{Content}
 use Rattle.pesp_nodes.specs.Problems.{ProblemValue}
-use Rattle.pesp_machine.specs.declared.job.Job.{Job}
-use Rattle.pesp_machine.specs.States.{State, IsJobLeaf}
+use Rattle.pesp_tree.specs.declared.job.Job.{Job}
+use Rattle.pesp_tree.specs.States.{State, IsJobLeaf}
 use Rattle.pesp_worker.specs.declared.jobs.OpenJob.{OpenJob}
 use Rattle.pesp_worker.specs.Lent.{IsLentFrom}
 
 -- a job by its number and the path to its leaf
-abbrev pub told_job : Job → ℕ × List (Cut × Side)
-told_job job = (job.number, job.path.items)
+abbrev pub job_and_path : Job → ℕ × List (Cut × Side)
+job_and_path job = (job.number, job.path.items)
 
 -- the value is that of the leaf that is lent under the job's number, as it is told
 abbrev pub HasItsValue : ProblemValue → State → OpenJob → Type 0

@@ -3,10 +3,10 @@ use Rattle.std.specs.Prelude.{◌≡◌, List}
 use Rattle.pesp_problem.specs.Timetables.{Pesp}
 use Rattle.pesp_truth.specs.Certificates.{Content}
 use Rattle.pesp_nodes.specs.Problems.{ProblemValue}
-use Rattle.pesp_machine.specs.declared.job.Job.{Job}
-use Rattle.pesp_machine.specs.States.{State}
-use Rattle.pesp_machine.specs.Adopting.{Adopts, LendsEach}
-use Rattle.pesp_machine.specs.Certificates.{IsProblemOf}
+use Rattle.pesp_tree.specs.declared.job.Job.{Job}
+use Rattle.pesp_tree.specs.States.{State}
+use Rattle.pesp_tree.specs.Adopting.{Adopts, LendsEach}
+use Rattle.pesp_tree.specs.Certificates.{IsProblemOf}
 
 -- the problem is the instance's with the base's cycles; from the base's tree and times each open leaf is lent, in preorder, as these jobs
 pub record IsLentFrom (instance : Pesp) (base : Content) (p : ProblemValue) (jobs : List Job) (state : State) : Type 0 where

@@ -6,8 +6,8 @@ use Rattle.pesp_problem.specs.declared.cut.Cut.{Cut}
 use Rattle.pesp_problem.specs.declared.cut.Cut.TheVariants.{Slack, Offset}
 use Rattle.pesp_problem.specs.declared.cut.Side.{Side}
 use Rattle.pesp_problem.specs.declared.cut.Side.TheVariants.{Low, High}
-use Rattle.pesp_machine.specs.declared.refusal.GiveRefusal.{GiveRefusal}
-use Rattle.pesp_machine.specs.declared.refusal.GiveRefusal.TheVariants.{UnknownJob, AlreadyGiven, NotValid, Memory, TooLarge}
+use Rattle.pesp_tree.specs.declared.refusal.GiveRefusal.{GiveRefusal}
+use Rattle.pesp_tree.specs.declared.refusal.GiveRefusal.TheVariants.{UnknownJob, AlreadyGiven, NotValid, Memory, TooLarge}
 use Rattle.pesp_worker.specs.declared.jobs.OpenJob.{OpenJob}
 use Rattle.pesp_worker.specs.declared.grafted.Reply.{Reply}
 
@@ -26,13 +26,13 @@ abbrev pub step_words : Cut × Side → List ℕ
 step_words step = cut_words step.0 ++ side_word step.1
 
 -- the number of the job, its value, and the path to its leaf
-abbrev pub job_line : OpenJob → List ℕ
-job_line leaf = codes "job " ++ decimal leaf.job.number ++ codes " " ++ decimal leaf.value
+abbrev pub open_job_line : OpenJob → List ℕ
+open_job_line leaf = codes "job " ++ decimal leaf.job.number ++ codes " " ++ decimal leaf.value
     ++ flat_map step_words leaf.job.path.items ++ codes "\n"
 
 -- the header, a line for each job, and the end
 abbrev pub jobs_text : List OpenJob → List ℕ
-jobs_text opens = codes "pesp-jobs 1\n" ++ flat_map job_line opens ++ codes "end\n"
+jobs_text opens = codes "pesp-jobs 1\n" ++ flat_map open_job_line opens ++ codes "end\n"
 
 -- taken, or refused with the refusal's number and name
 abbrev pub reply_words : Result (Unit {0}) GiveRefusal → List ℕ

@@ -1,8 +1,8 @@
 //! The parts of a tree at the ends of paths. What is cut out is judged by its caller.
 
 ghost use Rattle.std.specs.Prelude.{◌≡◌, ◌∷◌, []};
-ghost use Rattle.pesp_truth.specs.Certificates.{line_of};
-ghost use Rattle.pesp_search_laws.specs.Rooms.{branch_lines};
+ghost use Rattle.pesp_truth.specs.Trees.{line_of};
+ghost use Rattle.pesp_branching.specs.Rooms.{branch_lines};
 
 use crate::copies::copy_lines;
 use pesp_problem::{Cut, Memory, Side};

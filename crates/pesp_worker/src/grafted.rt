@@ -2,15 +2,15 @@
 
 ghost use Rattle.std.specs.Prelude.{◌≡◌, [], ◌∷◌, ◌++◌, map, IfOk, OnOk, IsTrue, ◌↔◌, Err, None};
 ghost use Rattle.pesp_truth.specs.Certificates.{IsValid};
-ghost use Rattle.pesp_machine.specs.declared.refusal.GiveRefusal.TheVariants.{Memory as Refused};
-ghost use Rattle.pesp_machine.specs.Certificates.{IsProblemOf, IsCertificateOf};
+ghost use Rattle.pesp_tree.specs.declared.refusal.GiveRefusal.TheVariants.{Memory as Refused};
+ghost use Rattle.pesp_tree.specs.Certificates.{IsProblemOf, IsCertificateOf};
 ghost use Rattle.pesp_worker.specs.Grafts.{OffersShown, TakesWork, TakesWorks, IsGrafted};
 
 use crate::lent::lend_base;
 use pesp_board::{Board, GiveRefusal, Work};
 use pesp_cert::Certificate;
+use pesp_cert_items::WorkText;
 use pesp_problem::{Instance, Memory};
-use pesp_works::WorkText;
 use std::alloc::Global;
 
 /// What became of a work: it was taken for its job, or why not.

@@ -1,7 +1,7 @@
 //! Leaves that are lent to the work.
 
 ghost use Rattle.std.specs.Prelude.{◌≡◌, IfOk, IfSome, IsOk, IsTrue};
-ghost use Rattle.pesp_machine.specs.Events.{LendsLeaf};
+ghost use Rattle.pesp_tree.specs.Events.{LendsLeaf};
 ghost use Rattle.pesp_worker.specs.Holding.{IsHeld};
 
 use crate::copies::copy_pairs;

@@ -2,8 +2,8 @@
 
 ghost use Rattle.std.specs.Prelude.{◌≡◌, [], ◌∷◌, ◌++◌, All, map, IfOk, OnOk, None};
 ghost use Rattle.pesp_truth.specs.Certificates.{IsValid};
-ghost use Rattle.pesp_machine.specs.States.{State, IsLentNumber};
-ghost use Rattle.pesp_machine.specs.Adopting.{LendsEach};
+ghost use Rattle.pesp_tree.specs.States.{State, IsLentNumber};
+ghost use Rattle.pesp_tree.specs.Adopting.{LendsEach};
 ghost use Rattle.pesp_worker.specs.Jobs.{HasItsValue, AreOpenJobs};
 
 use crate::lent::lend_base;

@@ -5,24 +5,25 @@ ghost use Rattle.std.specs.List.{AllZip};
 ghost use Rattle.std.specs.Global.{Vec};
 ghost use Rattle.pesp_truth.specs.declared.tree.TreeLine.{TreeLine};
 ghost use Rattle.std.specs.List.Sorted.{IsStrictlyIncreasing};
-ghost use Rattle.pesp_truth.specs.Certificates.{IsValid, line_of, cost_of};
-ghost use Rattle.pesp_machine.specs.declared.work.Work.TheVariants.{Tree};
-ghost use Rattle.pesp_machine.specs.States.{IsLentNumber};
-ghost use Rattle.pesp_search_laws.specs.Rooms.{branch_lines};
+ghost use Rattle.pesp_truth.specs.Certificates.{IsValid, cost_of};
+ghost use Rattle.pesp_truth.specs.Trees.{line_of};
+ghost use Rattle.pesp_tree.specs.declared.work.Work.TheVariants.{Tree};
+ghost use Rattle.pesp_tree.specs.States.{IsLentNumber};
+ghost use Rattle.pesp_branching.specs.Rooms.{branch_lines};
 ghost use Rattle.pesp_worker.specs.Holding.{KeepsOthers};
-ghost use Rattle.pesp_worker.specs.HandingIn.{Fits, IsFound, IsWholeFrom, IsJudged, AreJudged, branches_of, AreWorksOn, AreWorkRefusal};
+ghost use Rattle.pesp_worker.specs.HandingIn.{Fits, IsFound, IsWholeFrom, IsJudged, AreHandedIn, branches_of, AreWorksOn, AreWorkRefusal};
 
 use crate::copies::{copy_pairs, one_line};
 use crate::cutting_out::branches_in;
 use crate::held_leaves::is_taken;
 use crate::lend_base;
 use crate::refusal::WorkRefusal;
-use crate::shared_search::{Range, add, are_there};
+use crate::shared_search::{SplitLimits, add, are_there};
 use pesp_board::{Board, Work};
 use pesp_cert::Certificate;
+use pesp_cert_items::WorkText;
 use pesp_problem::{Instance, Memory};
 use pesp_truth::TreeLine;
-use pesp_works::WorkText;
 use std::alloc::Global;
 
 /// A tree that may be handed in, and how many branches it has.
@@ -182,7 +183,7 @@ fn judge_each(
     requires rise { IsStrictlyIncreasing (map (λ work. work.job) found.items) }
     requires lent { All (λ work. IsLentNumber board.old.state work.job) found.items }
     ensures { IfOk result
-        (λ works. AreJudged board.old.problem board.old.state steps until found.items works.items) }
+        (λ works. AreHandedIn board.old.problem board.old.state steps until found.items works.items) }
 {
     let _best = board.best();
     let mut works = Vec::new(alloc);
@@ -202,7 +203,7 @@ pub(crate) fn judged(
     instance: &Instance,
     base: &Certificate,
     jobs: &[u64],
-    range: Range,
+    range: SplitLimits,
     found: Vec<WorkText>,
 ) -> Result<Vec<WorkText>, WorkRefusal>
     requires valid { IsValid None instance.now base.now }

@@ -5,9 +5,9 @@ ghost use Rattle.std.specs.Prelude.{◌≡◌, List, map};
 ghost use Rattle.pesp_problem.specs.Timetables.{Pesp};
 ghost use Rattle.pesp_truth.specs.Certificates.{Content};
 ghost use Rattle.pesp_nodes.specs.Problems.{ProblemValue};
-ghost use Rattle.pesp_machine.specs.declared.job.Job.{Job};
-ghost use Rattle.pesp_machine.specs.States.{State};
-ghost use Rattle.pesp_worker.specs.Jobs.{told_job};
+ghost use Rattle.pesp_tree.specs.declared.job.Job.{Job};
+ghost use Rattle.pesp_tree.specs.States.{State};
+ghost use Rattle.pesp_worker.specs.Jobs.{job_and_path};
 ghost use Rattle.pesp_worker.specs.Lent.{IsLentFrom};
 
 /// Which jobs there are, each with its number and the path to its leaf, and the state of the board on which they are lent, are
@@ -16,5 +16,5 @@ ghost use Rattle.pesp_worker.specs.Lent.{IsLentFrom};
 pub fn jobs_are_those_of_the_base()
     ensures { (instance : Pesp) (base : Content) (p q : ProblemValue) (jobs others : List Job)
         (s t : State) → IsLentFrom instance base p jobs s → IsLentFrom instance base q others t
-        → (map told_job jobs ≡ map told_job others) × (s ≡ t) }
+        → (map job_and_path jobs ≡ map job_and_path others) × (s ≡ t) }
 {}

@@ -8,11 +8,11 @@ ghost use Rattle.pesp_worker.specs.HandingIn.{AreWorksOn, AreWorkRefusal};
 
 use crate::judged_trees::judged;
 use crate::refusal::WorkRefusal;
-use crate::shared_search::{Range, search_below};
+use crate::shared_search::{SplitLimits, search_below};
 use pesp_cert::Certificate;
-use pesp_finder::TimesFinder;
+use pesp_cert_items::WorkText;
+use pesp_forest::TimesFinder;
 use pesp_problem::Instance;
-use pesp_works::WorkText;
 use std::alloc::Global;
 
 /// Works on open leaves of a valid certificate, whose jobs rise, by at most so many splits in all: the open leaf of least value below
@@ -41,7 +41,7 @@ pub fn work_on_all<F: TimesFinder>(
         (λ works. AreWorksOn instance.now base.now jobs.now steps until works.items) }
     ensures refused { IfErr result (AreWorkRefusal instance.now base.now jobs.now) }
 {
-    let range = Range { steps, until };
+    let range = SplitLimits { steps, until };
     let found = search_below(alloc, instance, base, jobs, range, finder)?;
     judged(alloc, instance, base, jobs, range, found)
 }

@@ -3,7 +3,7 @@
 ghost use Rattle.std.specs.Prelude.{◌≡◌, ◌++◌, codes};
 ghost use Rattle.std.specs.List.{flat_map};
 ghost use Rattle.pesp_stream.specs.Printing.{Sending, Sends};
-ghost use Rattle.pesp_worker.specs.Texts.{cut_words, side_word, step_words, job_line, reply_words, reply_line};
+ghost use Rattle.pesp_worker.specs.Texts.{cut_words, side_word, step_words, open_job_line, reply_words, reply_line};
 
 use crate::grafted::Reply;
 use crate::jobs::OpenJob;
@@ -48,7 +48,7 @@ fn print_path<O: Output>(path: &[(Cut, Side)], out: &mut O)
 }
 
 fn print_job<O: Output>(leaf: &OpenJob, out: &mut O)
-    ensures { Sends (O.sending out.old) (O.sending out.new) (job_line leaf.now) }
+    ensures { Sends (O.sending out.old) (O.sending out.new) (open_job_line leaf.now) }
 {
     ("job ", Number(leaf.job.number), " ", Number(leaf.value)).print(out);
     print_path(&leaf.job.path, out);
@@ -57,7 +57,7 @@ fn print_job<O: Output>(leaf: &OpenJob, out: &mut O)
 
 #[tactic(auto, using(pesp_stream::proofs::Printing::sends_nothing, pesp_stream::proofs::Printing::sends_next, pesp_stream::proofs::Printing::sends_all))]
 fn print_jobs<O: Output>(opens: &[OpenJob], out: &mut O)
-    ensures { Sends (O.sending out.old) (O.sending out.new) (flat_map job_line opens.now) }
+    ensures { Sends (O.sending out.old) (O.sending out.new) (flat_map open_job_line opens.now) }
 {
     for leaf in opens {
         print_job(leaf, out);

@@ -5,8 +5,8 @@ ghost use Rattle.std.specs.List.{AllZip};
 ghost use Rattle.pesp_problem.specs.declared.limits.TheConstants.{MOST_STEPS};
 ghost use Rattle.pesp_problem.specs.Timetables.{Pesp};
 ghost use Rattle.pesp_truth.specs.Certificates.{IsValid, cost_of};
-ghost use Rattle.pesp_machine.specs.Events.{IsCheaper};
-ghost use Rattle.pesp_machine.specs.Certificates.{IsProblemOf};
+ghost use Rattle.pesp_tree.specs.Events.{IsCheaper};
+ghost use Rattle.pesp_tree.specs.Certificates.{IsProblemOf};
 ghost use Rattle.pesp_worker.specs.HandingIn.{AreTimesFor, AreShort, IsFound, AreWorkRefusal};
 
 use crate::cutting_out::{count_branches, cut_out, ends_of};
@@ -16,16 +16,16 @@ use crate::splits::split_on;
 use crate::{Lent, lend_base};
 use pesp_board::{Board, Job};
 use pesp_cert::Certificate;
-use pesp_finder::TimesFinder;
+use pesp_cert_items::WorkText;
+use pesp_forest::TimesFinder;
 use pesp_problem::{Instance, Memory};
 use pesp_truth::{Answer, TreeLine};
-use pesp_works::WorkText;
 use std::alloc::Global;
 use std::mem;
 
 /// How many leaves may be split, and from which value on none is.
 #[derive(Clone, Copy)]
-pub(crate) struct Range {
+pub(crate) struct SplitLimits {
     pub(crate) steps: u32,
     pub(crate) until: Option<u64>,
 }
@@ -127,7 +127,7 @@ fn work_on<F: TimesFinder>(
     board: Board,
     base: &Certificate,
     jobs: &[u64],
-    range: Range,
+    range: SplitLimits,
     finder: &mut F,
 ) -> Result<Board, Memory>
     requires { range.steps ≤ MOST_STEPS }
@@ -137,7 +137,7 @@ fn work_on<F: TimesFinder>(
     match open_jobs(alloc, &mut board, jobs, range.steps) {
         Ok(true) => {
             let before = count_branches(base.tree());
-            let Range { steps, until } = range;
+            let SplitLimits { steps, until } = range;
             split_on(alloc, instance, board, before, steps, until, finder)
         }
         Ok(false) => Ok(board),
@@ -218,7 +218,7 @@ fn found_for<F: TimesFinder>(
     lent: Lent,
     base: &Certificate,
     jobs: &[u64],
-    range: Range,
+    range: SplitLimits,
     finder: &mut F,
 ) -> Result<Vec<WorkText>, Memory>
     requires of { IsProblemOf instance.now lent.board.problem }
@@ -250,7 +250,7 @@ pub(crate) fn search_below<F: TimesFinder>(
     instance: &Instance,
     base: &Certificate,
     jobs: &[u64],
-    range: Range,
+    range: SplitLimits,
     finder: &mut F,
 ) -> Result<Vec<WorkText>, WorkRefusal>
     requires valid { IsValid None instance.now base.now }

@@ -6,7 +6,7 @@ ghost use Rattle.pesp_turns.specs.Knowing.{IsKnown};
 
 use crate::held_leaves::lend_next;
 use pesp_board::Board;
-use pesp_finder::{NoTimes, TimesFinder};
+use pesp_forest::{NoTimes, TimesFinder};
 use pesp_problem::{Instance, Memory};
 use pesp_turns::{Ending, Nobody, Search};
 use std::alloc::Global;

@@ -1,7 +1,7 @@
 use Rattle.std.proofs.Common.{List, [], ◌∷◌, map, sym, subst}
 use Rattle.pesp_truth.specs.declared.tree.TreeLine.{TreeLine}
-use Rattle.pesp_truth.specs.Certificates.{line_of}
-use Rattle.pesp_machine.specs.States.{root_of}
+use Rattle.pesp_truth.specs.Trees.{line_of}
+use Rattle.pesp_tree.specs.States.{root_of}
 use Rattle.pesp_board.specs.Adopting.{AreLinesOf}
 use Rattle.pesp_board.proofs.Taken.{sound_lines_keep}
 use Rattle.pesp_board.proofs.adoption.parts_of_tree.Goals as goal

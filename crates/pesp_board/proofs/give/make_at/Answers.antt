@@ -1,6 +1,6 @@
 use Rattle.std.proofs.Common.{sym, ◌∙◌, arith, subst}
 use Rattle.pesp_truth.specs.Trees.{Bound}
-use Rattle.pesp_machine.specs.States.{node_at}
+use Rattle.pesp_tree.specs.States.{node_at}
 use Rattle.pesp_board.specs.Parts.{MakesParts}
 use Rattle.pesp_board.specs.Giving.{AreCuts}
 use Rattle.pesp_board.proofs.Paths.{path_cuts, leaf_pairs}

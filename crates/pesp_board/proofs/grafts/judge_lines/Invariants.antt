@@ -1,5 +1,5 @@
 use Rattle.std.proofs.Common.{map, drop}
-use Rattle.pesp_truth.specs.Certificates.{line_of}
+use Rattle.pesp_truth.specs.Trees.{line_of}
 use Rattle.pesp_board.proofs.Judged.{AreJudged}
 use Rattle.pesp_board.proofs.grafts.judge_lines.Given as goal
 

@@ -1,6 +1,6 @@
 use Rattle.std.proofs.Common.{subst}
 use Rattle.pesp_problem.specs.Nodes.{Node}
-use Rattle.pesp_machine.specs.declared.work.Work.TheVariants as works
+use Rattle.pesp_tree.specs.declared.work.Work.TheVariants as works
 use Rattle.pesp_board.specs.Giving.{MakesOf}
 use Rattle.pesp_board.proofs.made_parts.make.Goals as goal
 

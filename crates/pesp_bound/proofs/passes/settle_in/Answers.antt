@@ -1,5 +1,5 @@
 use Rattle.std.proofs.Common.{◌≡◌, ℕ, ◌*◌, length, arith, sym, ◌∙◌, ap, subst}
-use Rattle.pesp_bound.specs.Settling.{at, AreWithin}
+use Rattle.pesp_bound.specs.Settling.{at, EdgesAreWithin}
 use Rattle.pesp_bound.proofs.Lifting.{not_found, less_left}
 use Rattle.pesp_bound.proofs.passes.settle_in.Goals as goal
 
@@ -8,14 +8,14 @@ pass-requires-clause-within c =
     let small = c.requires.small in (
       c.args.most,
       omega (arith, small),
-      subst (λ (k : ℕ). AreWithin k c.args.most c.args.edges.now)
+      subst (λ (k : ℕ). EdgesAreWithin k c.args.most c.args.edges.now)
           (sym c.loop-event.invariant.size) c.requires.within,
     )
 
 pub climb-requires-clause-within : goal.climb-requires-clause-within
 climb-requires-clause-within c = (
   c.args.most,
-  subst (λ (k : ℕ). AreWithin k c.args.most c.args.edges.now)
+  subst (λ (k : ℕ). EdgesAreWithin k c.args.most c.args.edges.now)
       (sym (c.in-Some.ensures.events ∙ c.loop-event.invariant.size)) c.requires.within,
 )
 
@@ -24,8 +24,8 @@ loop-event-smaller c =
     let i = c.loop-event.invariant in
     let e = c.in-Some.ensures in
     let size : length c.pass.new.level ≡ length c.args.level.now = e.events ∙ i.size in
-    let all : AreWithin (length c.pass.new.level) c.args.most c.args.edges.now =
-    subst (λ (k : ℕ). AreWithin k c.args.most c.args.edges.now) (sym size) c.requires.within in
+    let all : EdgesAreWithin (length c.pass.new.level) c.args.most c.args.edges.now =
+    subst (λ (k : ℕ). EdgesAreWithin k c.args.most c.args.edges.now) (sym size) c.requires.within in
     let none = not_found (length c.pass.new.level * c.args.most)
     (at c.pass.new.level c.in-Some.event) c.in_ok-found.found (c.in_ok-found.ensures.found c.args.most all)
     (sym c.if-is_some.ensures) in

@@ -1,13 +1,13 @@
 use Rattle.std.proofs.Common.{◌≡◌, length, vec_len}
 use Rattle.std.specs.Prelude.{All}
 use Rattle.pesp_nodes.specs.Offsets.{IsSmallOffset}
-use Rattle.pesp_nodes.specs.Problems.{net_of}
-use Rattle.pesp_bound.specs.Differences.{AreShifts}
+use Rattle.pesp_nodes.specs.Problems.{problem_net}
+use Rattle.pesp_bound.specs.Differences.{AreRowShifts}
 use Rattle.pesp_bound.proofs.shifts.shifts_of.Given as goal
 
 abbrev pub invariant-loop-place : goal.invariant-loop-place
 invariant-loop-place l = record {
   long : vec_len l.shifts ≡ length l.problem.network.rows;
-  shifts : AreShifts (net_of l.problem) l.problem.table l.node l.place l.shifts.items;
+  shifts : AreRowShifts (problem_net l.problem) l.problem.table l.node l.place l.shifts.items;
   small : All (λ s. IsSmallOffset l.problem.network.period s.0 × IsSmallOffset l.problem.network.period s.1) l.shifts.items;
 }

@@ -3,10 +3,10 @@ use Rattle.std.proofs.lemmas.Grind.{common_steps}
 use Rattle.std.specs.Prelude.{pos, slice_index_or}
 use Rattle.pesp_problem.specs.Walks.{net_count}
 use Rattle.pesp_network.specs.Networks.{NetworkValue}
-use Rattle.pesp_nodes.specs.Problems.{net_of, ArePairs}
+use Rattle.pesp_nodes.specs.Problems.{problem_net, ArePairs}
 use Rattle.pesp_bound.specs.declared.edge.Edge.{Edge}
 use Rattle.pesp_bound.specs.Settling.{AreSettled, GainsForEver}
-use Rattle.pesp_bound.specs.Differences.{IsSystem, walk_along, own_flow, AreMultipliers}
+use Rattle.pesp_bound.specs.Differences.{IsSystem, walk_along, own_flow, AreCycleMultipliers}
 use Rattle.pesp_bound.proofs.Systems.{within_of, not_settled, way_places, small_along, own_rows, gains_are_nothing, length_arcs, counted_as, mults_as}
 use Rattle.pesp_bound.proofs.system.closing_pairs.Goals as goal
 
@@ -14,7 +14,7 @@ pub closing_way-requires-clause-within : goal.closing_way-requires-clause-within
 closing_way-requires-clause-within c =
     let p = c.args.problem.now in
     let s = c.in-Some.system in
-    let y : IsSystem (net_of p) p.table c.args.node.now s.rows.items s.edges.items = rw c.in-Some.is at c.in_ok-system.ensures.system in
+    let y : IsSystem (problem_net p) p.table c.args.node.now s.rows.items s.edges.items = rw c.in-Some.is at c.in_ok-system.ensures.system in
     let same = c.network-network.ensures.network in
     rw (c.deref.ensures.value, c.events.ensures.events, c.network-network.ensures.network)
     (within_of p c.args.node.now s.rows.items s.edges.items (rw same at c.events.ensures.limits) y)
@@ -23,7 +23,7 @@ pub returns-in-None-clause-decided : goal.returns-in-None-clause-decided
 returns-in-None-clause-decided c d =
     let p = c.args.problem.now in
     let s = c.in-Some.system in
-    let y : IsSystem (net_of p) p.table c.args.node.now s.rows.items s.edges.items = rw c.in-Some.is at c.in_ok-system.ensures.system in
+    let y : IsSystem (problem_net p) p.table c.args.node.now s.rows.items s.edges.items = rw c.in-Some.is at c.in_ok-system.ensures.system in
     let spans = rw c.network-network.ensures.network at c.rows-count.ensures.spans in
     let w : (h : ℕ → ℕ) × AreSettled c.deref.result.now h = rw c.in-None.is at c.in_ok-closing_way.ensures in
     not_settled p c.args.node.now s.rows.items s.edges.items w.0 spans.no_cycle y d
@@ -33,7 +33,7 @@ pub flows_along-requires-clause-places : goal.flows_along-requires-clause-places
 flows_along-requires-clause-places c =
     let p = c.args.problem.now in
     let s = c.in-Some.system in
-    let y : IsSystem (net_of p) p.table c.args.node.now s.rows.items s.edges.items = rw c.in-Some.is at c.in_ok-system.ensures.system in
+    let y : IsSystem (problem_net p) p.table c.args.node.now s.rows.items s.edges.items = rw c.in-Some.is at c.in_ok-system.ensures.system in
     let w : GainsForEver c.deref.result.now c.in-Some-2.way.items
     × (length c.in-Some-2.way.items ≤ 100000) = rw c.in-Some-2.is at c.in_ok-closing_way.ensures in
     let g : GainsForEver s.edges.items c.in-Some-2.way.items =
@@ -75,7 +75,7 @@ returns-clause-decided c d =
     let flows = c.in_ok-flows-in-Some-2.flows in
     let pairs = c.in_ok-pairs_of-in-Some-2.field-0 in
     let count = length c.rows-count.result.now in
-    let y : IsSystem (net_of p) p.table c.args.node.now s.rows.items s.edges.items = rw c.in-Some.is at c.in_ok-system.ensures.system in
+    let y : IsSystem (problem_net p) p.table c.args.node.now s.rows.items s.edges.items = rw c.in-Some.is at c.in_ok-system.ensures.system in
     let spans = rw c.network-network.ensures.network at c.rows-count.ensures.spans in
     let w : GainsForEver c.deref.result.now way.items × (length way.items ≤ 100000) = rw c.in-Some-2.is at c.in_ok-closing_way.ensures in
     let g : GainsForEver s.edges.items way.items = subst (λ (edges : List Edge). GainsForEver edges way.items) c.deref.ensures.value w.0 in
@@ -84,11 +84,11 @@ returns-clause-decided c d =
     counted_as count s.rows.items c.deref-in-Some-2.result.now way.items c.deref-in-Some-2-2.result.now
     flows.items c.deref-in-Some-2.ensures.value c.deref-in-Some-2-2.ensures.value
     c.in_ok-flows-in-Some-2.ensures.flows in
-    let rows : length (net_of p).arcs ≡ count = let a = ap length c.rows-count.ensures.rows in
+    let rows : length (problem_net p).arcs ≡ count = let a = ap length c.rows-count.ensures.rows in
     let b = ap (λ (n : NetworkValue). length n.rows) c.network-network.ensures.network in
     omega (arith, a, b, length_arcs p) in
     let are : ArePairs (length p.table) pairs.items = rw c.table-table.ensures.table at c.in_ok-pairs_of-in-Some-2.ensures.pairs in
-    let mults : AreMultipliers (length p.table)
+    let mults : AreCycleMultipliers (length p.table)
     (own_flow p.table (λ i. slice_index_or flows.items i (pos 0))) pairs.items =
     mults_as p.table c.table-table.result.now flows.items c.deref-in-Some-2-3.result.now pairs.items
     c.table-table.ensures.table c.deref-in-Some-2-3.ensures.value c.in_ok-pairs_of-in-Some-2.ensures.mults in

@@ -1,8 +1,8 @@
 use Rattle.std.proofs.Common.{subst}
 use Rattle.pesp_network.specs.Networks.{KeepsNetLimits}
 use Rattle.pesp_nodes.specs.Problems.{ProblemValue, IsSmallTable}
-use Rattle.pesp_search_laws.proofs.Spent.{offers_none}
-use Rattle.pesp_search_laws.proofs.Turns.{offers}
+use Rattle.pesp_branching.proofs.Spent.{offers_none}
+use Rattle.pesp_branching.proofs.Turns.{offers}
 use Rattle.pesp_branching.proofs.offers.offer.Goals as goal
 
 pub returns-clause-worked : goal.returns-clause-worked

@@ -1,6 +1,6 @@
 use Rattle.std.proofs.Common.{sym, subst}
 use Rattle.pesp_nodes.specs.Problems.{ProblemValue}
-use Rattle.pesp_search_laws.specs.Turns.{IsWorked}
+use Rattle.pesp_branching.specs.Turns.{IsWorked}
 use Rattle.pesp_branching.proofs.offers.offer_times.Goals as goal
 
 pub returns-clause-worked : goal.returns-clause-worked

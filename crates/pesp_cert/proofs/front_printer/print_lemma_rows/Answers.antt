@@ -1,6 +1,6 @@
 use Rattle.std.proofs.Common.{◌≡◌, ◌∙◌, ap}
 use Rattle.pesp_stream.proofs.Printing.{sends_then, sends_as}
-use Rattle.pesp_lemma.specs.Shown.{LemmaProof}
+use Rattle.pesp_truth.specs.Shown.{LemmaProof}
 use Rattle.pesp_cert.specs.Print.{pairs_text}
 use Rattle.pesp_cert.proofs.front_printer.print_lemma_rows.Goals as goal
 

@@ -1,5 +1,5 @@
 use Rattle.std.proofs.Common.{length, ap, arith, sym, ◌∙◌}
-use Rattle.pesp_text.proofs.Pieces.{most_words}
+use Rattle.pesp_stream.proofs.SplitPieces.{most_words}
 use Rattle.pesp_cert_lines.proofs.line.judge_words.Goals as goal
 
 pub judge_numbers-requires : goal.judge_numbers-requires

@@ -1,44 +1,68 @@
-use Rattle.std.proofs.Common.{◌∙◌, sym, subst, List, [], ◌∷◌, length}
+use Rattle.std.proofs.Common.{◌≡◌, arith, ◌∙◌, refl, ap, sym, subst, List, ◌∷◌, [], length}
 use Rattle.pesp_problem.specs.Arcs.{net_of}
 use Rattle.pesp_problem.specs.Nodes.{root}
-use Rattle.pesp_truth.specs.Certificates.{least_of, lines_of}
-use Rattle.pesp_lemma.specs.Lemmas.{Lemma}
-use Rattle.pesp_lemma.specs.Trees.{cost_goal, AreSoundFrom}
-use Rattle.pesp_lemma.specs.Shown.{lemmas_of}
-use Rattle.pesp_lemma_leaves.specs.Taken.{HaveRows}
-use Rattle.pesp_check.specs.Costs.{marks_of}
-use Rattle.pesp_check.proofs.Valid.{have_rows, lemmas_in, facts_are_of, valid_from}
+use Rattle.pesp_truth.specs.Marks.{Marks}
+use Rattle.pesp_truth.specs.Lemmas.{Lemma}
+use Rattle.pesp_truth.specs.Certificates.{claim_of, least_of, lines_of}
+use Rattle.pesp_leaves.specs.Taken.{HaveRows}
+use Rattle.pesp_check.specs.Rooms.{AreOwnWeights, FitsWalks}
+use Rattle.pesp_check.proofs.Inner.{if_behind}
+use Rattle.pesp_check.proofs.Valid.{front_rows, shown_lemmas, shown_closed}
+use Rattle.pesp_check.proofs.Claims.{for_marks, front_fits, own_weights_there, room_there, told_there, least_few}
 use Rattle.pesp_check.proofs.costs.costs_shown.Goals as goal
 
-pub costs_behind-requires-clause-rows : goal.costs_behind-requires-clause-rows
-costs_behind-requires-clause-rows c =
+pub table_of-requires-clause-walks : goal.table_of-requires-clause-walks
+table_of-requires-clause-walks c = (rw (← c.certificate.view_is) at c.requires).cycles
+
+pub new-checker-requires-clause-few : goal.new-checker-requires-clause-few
+new-checker-requires-clause-few c =
+    let same = ap length c.deref-4.ensures.value in omega (arith, same, c.in_ok-table.ensures.few)
+
+pub new-checker-requires-clause-fits : goal.new-checker-requires-clause-fits
+new-checker-requires-clause-fits c =
     let p = c.args.instance.now in
     let front = c.certificate.inside.front in
-    let from = valid_from front p c.certificate.inside.certificate c.a_front_without_walks_changes_nothing.ensures
-    (rw (← c.certificate.view_is) at c.requires) in
+    let valid = rw (← c.certificate.view_is) at c.requires in
     let R : List Lemma → Type 0 = HaveRows (length p.rows) in
-    subst R (facts_are_of front ∙ sym (c.deref.ensures.value ∙ c.in_ok-facts.ensures)) (have_rows p [] (lemmas_in front) from.lemmas)
+    c.claim_over-claim.ensures.fits p
+    (subst R (sym (c.deref.ensures.value ∙ c.in_ok-facts.ensures)) (front_rows p front (shown_lemmas front p valid.shown)))
+    (for_marks (λ m. m.now) c.marks_of.result front (λ (m : Marks). FitsWalks p m c.deref-2.result.now c.deref-3.result.now)
+    c.marks_of.ensures (front_fits front p c.in_ok-room.room c.deref-2.result.now c.deref-3.result.now
+    c.deref-2.ensures.value c.deref-3.ensures.value (if_behind front _ c.is_some.result c.is_some.ensures c.in_ok-room.ensures) (shown_closed front p valid.shown)))
 
-pub costs_behind-requires-clause-walks : goal.costs_behind-requires-clause-walks
-costs_behind-requires-clause-walks c =
-    (valid_from c.certificate.inside.front c.args.instance.now c.certificate.inside.certificate
-    c.a_front_without_walks_changes_nothing.ensures (rw (← c.certificate.view_is) at c.requires)).cycles
-
-pub costs_behind-requires-clause-closed : goal.costs_behind-requires-clause-closed
-costs_behind-requires-clause-closed c =
-    rw c.in_ok-marks.ensures
-    ((valid_from c.certificate.inside.front c.args.instance.now c.certificate.inside.certificate
-    c.a_front_without_walks_changes_nothing.ensures (rw (← c.certificate.view_is) at c.requires)).marks.walks)
-
-pub costs_behind-requires-clause-sound : goal.costs_behind-requires-clause-sound
-costs_behind-requires-clause-sound c =
+pub tree_costs-requires-clause-told : goal.tree_costs-requires-clause-told
+tree_costs-requires-clause-told c =
     let p = c.args.instance.now in
-    let n = net_of p in
     let front = c.certificate.inside.front in
     let content = c.certificate.inside.certificate in
-    let wanted = cost_goal n (least_of content.answer) in
-    let from = valid_from front p content c.a_front_without_walks_changes_nothing.ensures (rw (← c.certificate.view_is) at c.requires) in
-    let S : List Lemma → Type 0 = λ facts. AreSoundFrom (marks_of front) facts n content.cycles wanted (lines_of content) (root n content.cycles ∷ []) in
-    rw c.in_ok-marks.ensures (subst S (facts_are_of front ∙ sym (c.deref.ensures.value ∙ c.in_ok-facts.ensures))
-    (c.lemma_lines_are_sound_as_tree.ensures.lines (marks_of front) (lemmas_of (lemmas_in front)) n content.cycles wanted (lines_of content)
-    (root n content.cycles) from.tree))
+    let least = c.least-least.ensures ∙ ap least_of c.answer.ensures.value in
+    let own = for_marks (λ m. m.now) c.marks_of.result front (λ (m : Marks). AreOwnWeights p c.deref-3.result.now) c.marks_of.ensures
+    (own_weights_there front p c.in_ok-room.room c.deref-3.result.now c.deref-3.ensures.value
+    (if_behind front _ c.is_some.result c.is_some.ensures c.in_ok-room.ensures)) in
+    let tells = (rw least at c.claim_over-claim.ensures.told) p own (least_few content.answer c.answer.ensures.limits.answer) in
+    rw (c.new-checker.ensures.instance, c.new-checker.ensures.claim)
+    (told_there front (net_of p) (least_of content.answer) _ c.deref.result.now c.claim_over-claim.result c.marks_of.ensures
+    (c.deref.ensures.value ∙ c.in_ok-facts.ensures) tells)
+
+pub tree_costs-requires-clause-sound : goal.tree_costs-requires-clause-sound
+tree_costs-requires-clause-sound c =
+    let n = net_of c.args.instance.now in
+    let front = c.certificate.inside.front in
+    let content = c.certificate.inside.certificate in
+    let valid = rw (← c.certificate.view_is) at c.requires in
+    rw c.new-checker.ensures.instance
+    (c.lines_are_sound_as_tree.ensures.lines (claim_of front n (least_of content.answer)) n content.cycles (lines_of content)
+    (root n content.cycles) valid.tree)
+
+pub tree_costs-requires-clause-room : goal.tree_costs-requires-clause-room
+tree_costs-requires-clause-room c =
+    let front = c.certificate.inside.front in
+    let taken = ap length c.deref_mut-3.ensures.value in
+    let rates = ap length c.deref_mut-4.ensures.value in
+    rw (c.new-checker.ensures.claim, c.new-checker.ensures.instance)
+    (c.claim_over-claim.ensures.room (length c.args.instance.now.rows) _ _ (for_marks (λ m. m.now) c.marks_of.result front (λ (m : Marks). _) c.marks_of.ensures
+    (room_there front c.args.instance.now c.in_ok-room.room _ _ _ refl taken rates
+    (if_behind front _ c.is_some.result c.is_some.ensures c.in_ok-room.ensures))))
+
+pub returns : goal.returns
+returns c = rw (← c.certificate.view_is) (rw c.new-checker.ensures.instance at c.in_ok-shown.ensures)

@@ -1,6 +1,6 @@
 use Rattle.std.proofs.Common.{rules, ◌∙◌, ap, FitsSigned, w64}
 use Rattle.std.proofs.lemmas.Int.{to_z-of_z}
-use Rattle.pesp_lemma.specs.Shown.{LemmaProof}
+use Rattle.pesp_truth.specs.Shown.{LemmaProof}
 use Rattle.pesp_check.proofs.LemmaCheck.{same_fact}
 use Rattle.pesp_check.proofs.lemma_check.fact_said.Goals as goal
 

@@ -1,8 +1,8 @@
 use Rattle.std.proofs.Common.{◌≡◌, List, sym, subst, ap, ◌∙◌, true, Option}
 use Rattle.std.proofs.lemmas.List.{take_all}
 use Rattle.pesp_cert.specs.Limits.{is_shown_lemma, are_lemmas}
-use Rattle.pesp_lemma.specs.Shown.{LemmaProof, lemmas_of}
-use Rattle.pesp_lemma.specs.Fronts.{Front as FrontOf}
+use Rattle.pesp_truth.specs.Shown.{LemmaProof, lemmas_of}
+use Rattle.pesp_truth.specs.Certificates.{Front as FrontOf}
 use Rattle.pesp_check.specs.Costs.{facts_said}
 use Rattle.pesp_check.proofs.Limits.{lemmas_keep, each_lemma}
 use Rattle.pesp_check.proofs.LemmaCheck.{facts_more, none_said}

@@ -8,9 +8,9 @@ use Rattle.pesp_truth.proofs.FrontLimits.{limits_of}
 use Rattle.pesp_cert.specs.Limits.{total_rows}
 use Rattle.pesp_judges.specs.Faults.{IsCycleFault}
 use Rattle.pesp_judges.specs.Lines.{KeepsLineLimits}
-use Rattle.pesp_lemma.specs.Shown.{LemmaProof}
-use Rattle.pesp_lemma_leaves.specs.Taken.{HaveRows}
-use Rattle.pesp_lemma_judges.specs.Showing.{kept}
+use Rattle.pesp_truth.specs.Shown.{LemmaProof}
+use Rattle.pesp_leaves.specs.Taken.{HaveRows}
+use Rattle.pesp_judges.specs.Showing.{kept_of_lemma}
 use Rattle.pesp_check.proofs.Limits.{shown_within}
 use Rattle.pesp_check.proofs.Fronts.{of_none}
 use Rattle.pesp_check.proofs.LemmaCheck.{whole_lemma}
@@ -131,4 +131,4 @@ returns-clause-verdict c =
     let tree = (rw (c.in_ok-found.ensures.instance ∙ begun.0) at c.in_ok-found-2.ensures.verdict) s c.args.at w.within lines begins
     (inl (refl, came)) in
     let whole = of_none c.in_ok-found-2.found _ _ c.in_default-found.not-Some tree in
-    whole_lemma p c.args.facts.now s c.args.at (kept c.lines_fault.new.judge) c.into_lemma.result w.within whole c.into_lemma.ensures.lemma
+    whole_lemma p c.args.facts.now s c.args.at (kept_of_lemma c.lines_fault.new.judge) c.into_lemma.result w.within whole c.into_lemma.ensures.lemma

@@ -2,10 +2,10 @@ use Rattle.std.proofs.Common.{◌≡◌, ◌+◌, ◌∙◌, arith, sym, ap, sub
 use Rattle.std.proofs.lemmas.List.{take_all}
 use Rattle.pesp_problem.specs.Arcs.{net_of}
 use Rattle.pesp_cert.specs.Limits.{is_shown_lemma}
-use Rattle.pesp_lemma.specs.Lemmas.{Lemma as Fact}
-use Rattle.pesp_lemma.specs.Shown.{LemmaProof, AreShownFrom, lemmas_of}
-use Rattle.pesp_lemma_leaves.specs.Taken.{HaveRows}
-use Rattle.pesp_lemma_judges.specs.Faults.{IsLemmaFault}
+use Rattle.pesp_truth.specs.Lemmas.{Lemma as Fact}
+use Rattle.pesp_truth.specs.Shown.{LemmaProof, lemmas_of, AreShownLemmas}
+use Rattle.pesp_leaves.specs.Taken.{HaveRows}
+use Rattle.pesp_judges.specs.Faults.{IsLemmaFault}
 use Rattle.pesp_check.proofs.Limits.{each_lemma, few_lemmas}
 use Rattle.pesp_check.proofs.Lemmas.{fault_among}
 use Rattle.pesp_check.proofs.LemmaCheck.{facts_more, shown_next, lines_more}
@@ -64,4 +64,4 @@ pub returns-clause-verdict : goal.returns-clause-verdict
 returns-clause-verdict c =
     let inv = c.loop-lemma.invariant in
     let all = take_all c.loop-lemma.lemma-index c.args.lemmas.now c.loop-lemma-test.false in
-    (inv.facts ∙ ap lemmas_of all, subst (λ (ss : List LemmaProof). AreShownFrom (net_of c.args.instance.now) [] ss) all inv.shown)
+    (inv.facts ∙ ap lemmas_of all, subst (λ (ss : List LemmaProof). AreShownLemmas (net_of c.args.instance.now) [] ss) all inv.shown)

@@ -2,10 +2,10 @@ use Rattle.std.proofs.Common.{rules, ◌≡◌, ◌∙◌, ◌++◌, ap, sym, su
 use Rattle.std.proofs.lemmas.Int.{to_z-of_z}
 use Rattle.pesp_problem.specs.declared.pair.Pair.{Pair}
 use Rattle.pesp_problem.specs.Arcs.{arcs_of}
-use Rattle.pesp_nets.specs.declared.marked.MarkedRow.{MarkedRow}
-use Rattle.pesp_lemma.specs.Lemmas.{NamesRows}
-use Rattle.pesp_lemma.specs.Shown.{LemmaProof}
-use Rattle.pesp_lemma_judges.specs.Showing.{KeptLemma, CyclesShown, kept, rows_kept}
+use Rattle.pesp_problem.specs.declared.marked.MarkedRow.{MarkedRow}
+use Rattle.pesp_truth.specs.Lemmas.{NamesRows}
+use Rattle.pesp_truth.specs.Shown.{LemmaProof}
+use Rattle.pesp_judges.specs.Showing.{KeptLemma, CyclesShown, kept_of_lemma, rows_kept}
 use Rattle.pesp_check.proofs.LemmaCheck.{head_came}
 use Rattle.pesp_check.proofs.lemma_check.judge_of.Goals as goal
 
@@ -39,7 +39,7 @@ returns c =
     } in
     let is = c.in_ok-take_walks.ensures.kept ∙ ap W (c.take_scale.ensures.kept ∙ ap S (least ∙ ap L found.2))
     ∙ ap E c.deref.ensures.value in
-    let P : LemmaProof → Type 0 = λ x. CyclesShown p x c.args.at (kept c.take_walks.new.judge) 0 in (
+    let P : LemmaProof → Type 0 = λ x. CyclesShown p x c.args.at (kept_of_lemma c.take_walks.new.judge) 0 in (
       c.in_ok-take_walks.ensures.instance ∙ c.take_scale.ensures.instance ∙ c.take_least.ensures.instance ∙ found.0,
       subst P c.lemma.view_is (head_came p s c.args.at c.in_ok-fact.fact.weights _ found.1 weights is),
     )

@@ -3,8 +3,7 @@ use Rattle.std.proofs.lemmas.List.{take_all}
 use Rattle.std.specs.List.{sum_by}
 use Rattle.pesp_truth.specs.Marks.{Marks}
 use Rattle.pesp_cert.specs.Limits.{is_shown_lemma, are_lemmas}
-use Rattle.pesp_lemma.specs.Shown.{LemmaProof}
-use Rattle.pesp_lemma.specs.Fronts.{lemma_lines}
+use Rattle.pesp_truth.specs.Shown.{LemmaProof, lemma_lines}
 use Rattle.pesp_check.proofs.Limits.{lemmas_keep, each_lemma, few_lemmas}
 use Rattle.pesp_check.proofs.LemmaCheck.{lines_more}
 use Rattle.pesp_check.proofs.lemma_check.last_line.Goals as goal
@@ -50,3 +49,6 @@ returns-clause-few c =
     let same = ap length c.lemmas-lemma-items.ensures.value in
     let few = few_lemmas c.args.front.now.lemmas (lemmas_keep c.args.front.now c.lemmas-lemma-items.ensures.limits) in
     omega (arith, c.loop-lemma.invariant.few, same, few, c.loop-lemma-test.false)
+
+pub returns-clause-keeps : goal.returns-clause-keeps
+returns-clause-keeps c = rw c.marks.ensures at c.walks.ensures.limits

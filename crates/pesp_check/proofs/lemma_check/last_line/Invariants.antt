@@ -1,6 +1,6 @@
 use Rattle.std.proofs.Common.{◌≡◌, ◌≤◌, ◌+◌, ◌*◌, take, length}
 use Rattle.std.specs.List.{sum_by}
-use Rattle.pesp_lemma.specs.Fronts.{lemma_lines}
+use Rattle.pesp_truth.specs.Shown.{lemma_lines}
 use Rattle.pesp_check.proofs.lemma_check.last_line.Given as goal
 
 abbrev pub invariant-loop-lemma : goal.invariant-loop-lemma

@@ -1,5 +1,5 @@
 use Rattle.std.proofs.Common.{arith, ap, length}
-use Rattle.pesp_lemma.specs.Shown.{LemmaProof}
+use Rattle.pesp_truth.specs.Shown.{LemmaProof}
 use Rattle.pesp_check.proofs.LemmaCheck.{few_lines}
 use Rattle.pesp_check.proofs.lemma_check.lemma_lines.Goals as goal
 

@@ -1,12 +1,12 @@
 use Rattle.std.proofs.Common.{◌≡◌, ◌++◌, ◌∷◌, ◌∙◌, ◌+◌, List, [], ap, refl, sym, get_or, take, append_assoc, append-nil}
 use Rattle.std.proofs.lemmas.List.{take_more, take_all}
-use Rattle.pesp_nets.specs.declared.marked.MarkedRow.{MarkedRow}
-use Rattle.pesp_lemma_judges.specs.Showing.{KeptLemma, kept}
+use Rattle.pesp_problem.specs.declared.marked.MarkedRow.{MarkedRow}
+use Rattle.pesp_judges.specs.Showing.{KeptLemma, kept_of_lemma}
 use Rattle.pesp_check.proofs.lemma_check.take_walks.Goals as goal
 
 pub loop-walk-init : goal.loop-walk-init
 loop-walk-init c =
-    let old = kept c.args.judge.now in
+    let old = kept_of_lemma c.args.judge.now in
     let W : List (List MarkedRow) → KeptLemma = λ ws. record old { walks = ws } in
     record { instance = refl; kept = ap W (sym (append-nil old.walks)) }
 
@@ -15,7 +15,7 @@ loop-walk-preserved c =
     let inv = c.loop-walk.invariant in
     let i = c.loop-walk.walk-index in
     let walks = c.args.walks.now in
-    let old = kept c.args.judge.now in
+    let old = kept_of_lemma c.args.judge.now in
     let again = c.in_ok-again.again in
     let A : KeptLemma → KeptLemma = λ k. record k { walks = k.walks ++ again ∷ [] } in
     let W : List (List MarkedRow) → KeptLemma = λ ws. record old { walks = ws } in
@@ -31,6 +31,6 @@ loop-walk-preserved c =
 
 pub returns-clause-kept : goal.returns-clause-kept
 returns-clause-kept c =
-    let old = kept c.args.judge.now in
+    let old = kept_of_lemma c.args.judge.now in
     let W : List (List MarkedRow) → KeptLemma = λ ws. record old { walks = old.walks ++ ws } in
     c.loop-walk.invariant.kept ∙ ap W (take_all c.loop-walk.walk-index c.args.walks.now c.loop-walk-test.false)

@@ -1,9 +1,9 @@
 use Rattle.std.proofs.Common.{◌≡◌, ◌+◌, refl, sym, ap, ◌∙◌, subst, arith, length}
-use Rattle.pesp_cert_items.specs.Lent.{line_said}
+use Rattle.pesp_cert_items.specs.Lent.{item_said}
 use Rattle.pesp_cert_items.specs.Readings.{Reading}
 use Rattle.pesp_cert_items.proofs.Running.{gives_of, on_ok}
 use Rattle.pesp_cert_items.proofs.Telling.{at_first}
-use Rattle.pesp_nets.specs.Nets.{AreZeros}
+use Rattle.pesp_problem.specs.Nets.{AreZeros}
 use Rattle.pesp_check.specs.Views.{kept}
 use Rattle.pesp_check.proofs.Items.{item_limits}
 use Rattle.pesp_check.proofs.Texts.{IsCheckedTo, checked_none, checked_more, checked_all, checked_fault, blamed_since, not_blamed, writes_all}
@@ -34,7 +34,7 @@ returns-in-Ok-None-clause-ok g c =
     checked_all c.args.versions c.args.instance.now _ _ _ judge.stage
     (kept judge) c.verdict.result c.answer.result inv.checked gives (rw inv.instance at c.verdict.ensures)
     (rw inv.instance at c.answer.ensures)
-    (λ front content valid. c.valid_behind_is_true.ensures front c.args.instance.now content (omega (arith, c.rows.ensures.limits.some_period)) valid)
+    (λ front content valid. c.valid_is_true.ensures front c.args.instance.now content (omega (arith, c.rows.ensures.limits.some_period)) valid)
 
 pub returns-in-Ok-None-clause-counts : goal.returns-in-Ok-None-clause-counts
 returns-in-Ok-None-clause-counts g c =
@@ -54,7 +54,7 @@ pub take-requires-clause-limits : goal.take-requires-clause-limits
 take-requires-clause-limits g c =
     let answers = rw (c.in-Ok-Some.is, c.in-Ok-Some.field-0-is) at c.next_from.follows.holds-at-none.2 in
     let gives = gives_of _ _ _ _ c.loop-judge.invariant.checked.going answers in
-    item_limits gives.3.0 (line_said c.in-Ok-Some.line) gives.3.1
+    item_limits gives.3.0 (item_said c.in-Ok-Some.line) gives.3.1
 
 pub loop-judge-preserved : goal.loop-judge-preserved
 loop-judge-preserved g c =
@@ -72,7 +72,7 @@ loop-judge-preserved g c =
     (let s = c.loop-judge.working.ok.0 in omega (arith, s)) in
     record {
       checked = checked_more c.args.instance.now _ _ _ old.stage new.stage (kept old) (kept new)
-          (line_said c.in-Ok-Some.line) inv.checked gives (rw inv.instance at took.judged);
+          (item_said c.in-Ok-Some.line) inv.checked gives (rw inv.instance at took.judged);
       instance = took.instance ∙ inv.instance;
       line = omega (arith, inv.line, took.line, gives.2.later);
       zeros = subst AreZeros (sym written) took.zeros;

@@ -3,7 +3,7 @@ use Rattle.std.proofs.Common.{◌≡◌, ◌-◌, ◌+◌, ◌≤◌, length}
 use Rattle.pesp_stream.specs.Counts.{Worked}
 use Rattle.pesp_cert_items.specs.Views.{reading}
 use Rattle.pesp_cert_items.proofs.Telling.{at_first}
-use Rattle.pesp_nets.specs.Nets.{AreZeros}
+use Rattle.pesp_problem.specs.Nets.{AreZeros}
 use Rattle.pesp_check.specs.Views.{kept}
 use Rattle.pesp_check.proofs.Texts.{IsCheckedTo}
 use Rattle.pesp_check.proofs.text_check.check_text_of.Given as goal

@@ -1,6 +1,6 @@
 use Rattle.std.proofs.Common.{length}
 use Rattle.pesp_conflict.specs.Findings.{AreAll, IsOpenOver}
-use Rattle.pesp_conflict.specs.Insides.{IsDecision, IsFirst}
+use Rattle.pesp_conflict.specs.Insides.{IsDecision, IsFirstDecision}
 use Rattle.pesp_conflict.proofs.Trials.{if_ok, first_is}
 use Rattle.pesp_conflict.proofs.search.decide_all.Goals as goal
 
@@ -16,4 +16,4 @@ returns-clause-decided g c =
     let all : AreAll (length p.rows) rows = rw (c.rows.ensures.rows) at c.in_ok-rows.ensures in
     let decided = rw (c.deref.ensures.value) at c.decide.ensures.decided in
     if_ok c.decide.result (IsDecision p rows (IsOpenOver p c.args.steps rows))
-    (IsFirst p c.args.steps) decided (λ d is. first_is p c.args.steps rows d all is)
+    (IsFirstDecision p c.args.steps) decided (λ d is. first_is p c.args.steps rows d all is)

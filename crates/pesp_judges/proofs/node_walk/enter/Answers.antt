@@ -1,5 +1,5 @@
 use Rattle.pesp_leaves.specs.Ranges.{node_of}
-use Rattle.pesp_nets.proofs.Walking.{enter_parts}
+use Rattle.pesp_problem.proofs.Walking.{enter_parts}
 use Rattle.pesp_judges.proofs.node_walk.enter.Goals as goal
 
 pub returns-clause-parts : goal.returns-clause-parts

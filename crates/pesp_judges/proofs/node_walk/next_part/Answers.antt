@@ -5,7 +5,7 @@ use Rattle.pesp_problem.specs.declared.cut.Side.TheVariants.{High}
 use Rattle.pesp_problem.specs.declared.cut.Cut.{Cut}
 use Rattle.pesp_problem.specs.Nodes.{part}
 use Rattle.pesp_leaves.specs.Ranges.{node_of}
-use Rattle.pesp_nets.proofs.Walking.{turn_parts}
+use Rattle.pesp_problem.proofs.Walking.{turn_parts}
 use Rattle.pesp_judges.proofs.node_walk.next_part.Goals as goal
 
 pub returns-in-Low-clause-parts : goal.returns-in-Low-clause-parts

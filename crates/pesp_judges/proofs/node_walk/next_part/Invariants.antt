@@ -1,7 +1,7 @@
 use Rattle.std.proofs.Common.{◌≡◌, List, length, reverse, vec_len}
 use Rattle.pesp_problem.specs.Nodes.{Node}
 use Rattle.pesp_leaves.specs.Ranges.{node_of, AreRanges}
-use Rattle.pesp_nets.specs.Pending.{pending}
+use Rattle.pesp_problem.specs.Pending.{pending}
 use Rattle.pesp_judges.specs.Pending.{AreChanges}
 use Rattle.pesp_judges.proofs.node_walk.next_part.Given as goal
 

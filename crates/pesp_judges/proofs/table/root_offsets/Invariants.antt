@@ -2,7 +2,7 @@ use Rattle.std.proofs.Common.{◌≡◌, take, map, List, length}
 use Rattle.pesp_problem.specs.declared.row.SignedRow.{SignedRow}
 use Rattle.pesp_problem.specs.Arcs.{net_of}
 use Rattle.pesp_problem.specs.Nodes.{odijk_range}
-use Rattle.pesp_nets.specs.Nets.{AreNets}
+use Rattle.pesp_problem.specs.Nets.{AreNets}
 use Rattle.pesp_judges.proofs.table.root_offsets.Given as goal
 
 abbrev pub invariant-loop-nets : goal.invariant-loop-nets

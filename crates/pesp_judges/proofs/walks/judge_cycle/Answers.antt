@@ -1,6 +1,6 @@
 use Rattle.std.proofs.Common.{arith, ap}
 use Rattle.std.specs.Prelude.{unsigned_abs}
-use Rattle.pesp_nets.proofs.Counts.{net_count_small}
+use Rattle.pesp_problem.proofs.Counts.{net_count_small}
 use Rattle.pesp_judges.proofs.walks.judge_cycle.Goals as goal
 
 pub take_nets-requires-clause-small : goal.take_nets-requires-clause-small

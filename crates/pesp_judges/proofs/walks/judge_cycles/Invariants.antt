@@ -2,7 +2,7 @@ use Rattle.std.proofs.Common.{ℕ, ◌<◌, length, take}
 use Rattle.pesp_problem.specs.Arcs.{arcs_of}
 use Rattle.pesp_problem.specs.Walks.{IsWalk}
 use Rattle.pesp_problem.specs.Nodes.{cycle_at}
-use Rattle.pesp_nets.specs.Nets.{AreNets, AreZeros}
+use Rattle.pesp_problem.specs.Nets.{AreNets, AreZeros}
 use Rattle.pesp_judges.proofs.walks.judge_cycles.Given as goal
 
 abbrev pub invariant-loop-place : goal.invariant-loop-place

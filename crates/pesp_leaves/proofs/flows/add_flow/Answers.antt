@@ -3,9 +3,9 @@ use Rattle.std.proofs.lemmas.Grind.{common_steps}
 use Rattle.std.specs.Prelude.{pos, ◌+ℤ◌, ◌*ℤ◌}
 use Rattle.std.specs.Int.{w64, w128}
 use Rattle.std.proofs.lemmas.Int.{ints, to_z-of_z}
-use Rattle.pesp_nets.specs.declared.nets.NetCount.{NetCount}
+use Rattle.pesp_problem.specs.declared.nets.NetCount.{NetCount}
 use Rattle.pesp_leaves.specs.Flows.{number_at}
-use Rattle.pesp_nets.proofs.Durations.{small_count}
+use Rattle.pesp_problem.proofs.Durations.{small_count}
 use Rattle.pesp_leaves.proofs.Flowing.{added_more, added_small}
 use Rattle.pesp_leaves.proofs.flows.add_flow.Goals as goal
 

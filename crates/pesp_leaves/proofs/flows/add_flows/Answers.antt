@@ -2,7 +2,7 @@ use Rattle.std.proofs.Common.{arith, FitsSigned, ◌-◌, ◌<◌, ◌∙◌, ap
 use Rattle.std.specs.Prelude.{◌+ℤ◌, ◌*ℤ◌, List}
 use Rattle.std.specs.Int.{w64}
 use Rattle.std.proofs.lemmas.Int.{ints, to_z-of_z}
-use Rattle.pesp_nets.specs.declared.nets.NetCount.{NetCount}
+use Rattle.pesp_problem.specs.declared.nets.NetCount.{NetCount}
 use Rattle.pesp_leaves.specs.Flows.{count_of, number_at}
 use Rattle.pesp_leaves.proofs.Flowing.{pairs_apart, made_more, nets_read}
 use Rattle.pesp_leaves.proofs.flows.add_flows.Goals as goal

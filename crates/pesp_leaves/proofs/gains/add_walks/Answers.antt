@@ -11,7 +11,7 @@ loop-pair-preserved g c =
     let elements = g.P.Elements.elements in
     let n = net_of c.args.checker.now.instance.now in
     let cycles = length c.args.checker.now.table.now in
-    let walks = c.args.marks.now.walks in
+    let walks = c.args.shown.now.marks.now.walks in
     let pair = c.in-Some.pair in
     let before = gains_small n c.args.slacks.now cycles walks (elements c.args.pairs) (elements c.loop-pair.left)
     (elements c.take_next.new.self) pair (to_z w128 c.loop-pair.gains-bits) c.loop-pair.rates c.in-Some.ensures

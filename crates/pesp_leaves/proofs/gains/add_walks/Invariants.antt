@@ -5,7 +5,7 @@ use Rattle.pesp_leaves.proofs.gains.add_walks.Given as goal
 
 abbrev pub invariant-loop-pair : goal.invariant-loop-pair
 invariant-loop-pair g l = AreSummed (net_of l.checker.instance.now) l.slacks
-    (length l.checker.table.now) l.marks.walks (g.P.Elements.elements l.fn.pairs)
+    (length l.checker.table.now) l.shown.marks.now.walks (g.P.Elements.elements l.fn.pairs)
     (g.P.Elements.elements l.left) l.gains l.rates
 
 abbrev pub decreases-loop-pair : goal.decreases-loop-pair

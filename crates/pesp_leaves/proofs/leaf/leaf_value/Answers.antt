@@ -3,7 +3,7 @@ use Rattle.std.specs.Prelude.{◌+ℤ◌}
 use Rattle.std.specs.Int.{w128}
 use Rattle.std.proofs.lemmas.Int.{ints}
 use Rattle.pesp_problem.specs.Arcs.{arcs_of}
-use Rattle.pesp_nets.specs.Nets.{AreNets}
+use Rattle.pesp_problem.specs.Nets.{AreNets}
 use Rattle.pesp_leaves.specs.Flows.{flow_sum}
 use Rattle.pesp_leaves.specs.Ranges.{node_of}
 use Rattle.pesp_leaves.proofs.Leaves.{value_is}
@@ -42,3 +42,12 @@ returns-clause-value g c walks nets =
     ∙ ap (λ (x : List (ℕ × ℕ)). flow_sum (arcs_of c.args.checker.now.instance.now) x c.args.weighted
     c.add_flows.new.flows) c.deref.ensures.value)
     (c.idle_part-idle.ensures.value c.args.checker.now.instance.now c.requires.ranges) e
+
+pub returns-clause-size : goal.returns-clause-size
+returns-clause-size g c =
+    let a = c.take_flows-moved.ensures.size in
+    let b = c.idle_part-idle.ensures.size c.args.checker.now.instance.now c.in_ok-offsets.ensures.limits c.requires.ranges in
+    let o = c.in_ok-offsets.ensures.size in
+    let s = c.plus.ensures.size in
+    let t = c.plus-2.ensures.size in
+    omega (arith, ints)

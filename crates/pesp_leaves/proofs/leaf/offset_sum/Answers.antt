@@ -5,7 +5,7 @@ use Rattle.std.proofs.lemmas.Int.{ints, to_z-of_z}
 use Rattle.pesp_problem.specs.Arcs.{net_of}
 use Rattle.pesp_problem.specs.Nodes.{offset_part}
 use Rattle.pesp_leaves.specs.Ranges.{node_of}
-use Rattle.pesp_nets.proofs.LeafValues.{offset_more, offset_none}
+use Rattle.pesp_problem.proofs.LeafValues.{offset_more, offset_none}
 use Rattle.pesp_leaves.proofs.Leaves.{left_read}
 use Rattle.pesp_leaves.proofs.Flowing.{pairs_apart}
 use Rattle.pesp_leaves.proofs.leaf.offset_sum.Goals as goal

@@ -2,7 +2,7 @@ use Rattle.std.proofs.Common.{arith, rules, unsigned_abs, FitsSigned, to_z, of_z
 use Rattle.std.specs.Prelude.{pos}
 use Rattle.std.specs.Int.{w64, w128}
 use Rattle.std.proofs.lemmas.Int.{ints, to_z-of_z}
-use Rattle.pesp_nets.proofs.LeafValues.{scaled_times}
+use Rattle.pesp_problem.proofs.LeafValues.{scaled_times}
 use Rattle.pesp_leaves.proofs.leaf.scaled_offset.Goals as goal
 
 pub returns-clause-value : goal.returns-clause-value

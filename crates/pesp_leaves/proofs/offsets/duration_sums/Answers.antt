@@ -4,10 +4,10 @@ use Rattle.std.specs.Int.{w128}
 use Rattle.std.proofs.lemmas.Int.{ints}
 use Rattle.std.proofs.lemmas.List.{take_all}
 use Rattle.pesp_problem.specs.Arcs.{arcs_of}
-use Rattle.pesp_nets.specs.declared.nets.NetCount.{NetCount}
-use Rattle.pesp_nets.specs.Nets.{sum_of}
-use Rattle.pesp_nets.specs.Ranges.{least_term, greatest_term}
-use Rattle.pesp_nets.proofs.Durations.{so_far_more, small_sum, least_is, greatest_is}
+use Rattle.pesp_problem.specs.declared.nets.NetCount.{NetCount}
+use Rattle.pesp_problem.specs.Nets.{sum_of}
+use Rattle.pesp_problem.specs.Ranges.{least_term, greatest_term}
+use Rattle.pesp_problem.proofs.Durations.{so_far_more, small_sum, least_is, greatest_is}
 use Rattle.pesp_leaves.proofs.Arcs.{nets_of_arcs}
 use Rattle.pesp_leaves.proofs.offsets.duration_sums.Goals as goal
 

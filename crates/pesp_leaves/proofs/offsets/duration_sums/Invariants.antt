@@ -1,6 +1,6 @@
 use Rattle.pesp_problem.specs.Arcs.{arcs_of}
-use Rattle.pesp_nets.specs.Ranges.{least_term, greatest_term}
-use Rattle.pesp_nets.proofs.Durations.{SoFar}
+use Rattle.pesp_problem.specs.Ranges.{least_term, greatest_term}
+use Rattle.pesp_problem.proofs.Durations.{SoFar}
 use Rattle.pesp_leaves.proofs.offsets.duration_sums.Given as goal
 
 abbrev pub invariant-loop-net : goal.invariant-loop-net

@@ -4,7 +4,7 @@ use Rattle.std.specs.Int.{w64, w128, int_max, int_min}
 use Rattle.std.proofs.lemmas.Int.{ints, clamps, to_z-of_z}
 use Rattle.pesp_problem.specs.Sums.{ceil_div, floor_div}
 use Rattle.pesp_leaves.specs.Offsets.{IsSmallOffset}
-use Rattle.pesp_nets.proofs.Durations.{left_small}
+use Rattle.pesp_problem.proofs.Durations.{left_small}
 use Rattle.pesp_leaves.proofs.offsets.left_between.Goals as goal
 
 pub range_of-requires-clause-from : goal.range_of-requires-clause-from

@@ -2,7 +2,7 @@ use Rattle.std.proofs.Common.{arith, unsigned_abs, FitsSigned, ap}
 use Rattle.std.specs.Prelude.{neg_ℤ}
 use Rattle.std.specs.Int.{w64, w128}
 use Rattle.std.proofs.lemmas.Int.{ints, to_z-of_z}
-use Rattle.pesp_nets.proofs.Durations.{floor_div-size}
+use Rattle.pesp_problem.proofs.Durations.{floor_div-size}
 use Rattle.pesp_leaves.proofs.offsets.quotient_up.Goals as goal
 
 pub overflow_cast-result : goal.overflow_cast-result

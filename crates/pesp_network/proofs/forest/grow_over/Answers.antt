@@ -1,6 +1,6 @@
 use Rattle.std.proofs.Common.{◌∙◌, ap, map, arith}
 use Rattle.std.proofs.lemmas.Grind.{common_steps}
-use Rattle.pesp_network.specs.Rooted.{number_of}
+use Rattle.pesp_network.specs.Rooted.{row_number_of}
 use Rattle.pesp_network.specs.Growing.{at}
 use Rattle.pesp_network.proofs.Picking.{bys_few, kept_ends, kept_grown, regrown, picked_met, grown_among}
 use Rattle.pesp_network.proofs.forest.grow_over.Goals as goal
@@ -20,7 +20,7 @@ returns-clause-grown c =
     (grown_among c.args.events c.args.rows.now c.args.numbers.now g e.events
     (kept_grown c.args.rows.now c.args.numbers.now c.as_slice.result.now g
     (c.as_slice.ensures.value ∙ c.in_ok-kept.ensures) e.grown))
-    e.closed e.all_seen e.events (c.in_ok-by.ensures ∙ ap (map (number_of c.args.numbers.now)) c.as_slice-2.ensures.value)
+    e.closed e.all_seen e.events (c.in_ok-by.ensures ∙ ap (map (row_number_of c.args.numbers.now)) c.as_slice-2.ensures.value)
 
 pub returns-clause-met : goal.returns-clause-met
 returns-clause-met c = λ i h.

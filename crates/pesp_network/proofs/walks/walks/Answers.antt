@@ -1,7 +1,7 @@
 use Rattle.std.proofs.Common.{vec_len, ◌≡◌, ◌+◌, ◌++◌, ◌∷◌, [], length, arith, ap, ◌∙◌, sym, true, false, List}
 use Rattle.pesp_problem.specs.declared.row.SignedRow.{SignedRow}
 use Rattle.pesp_network.specs.Networks.{arcs_of_network, signed_rows}
-use Rattle.pesp_network.specs.Ways.{is_kept, walks_of, walk_of}
+use Rattle.pesp_network.specs.Ways.{joins_upwards, walks_of, walk_of}
 use Rattle.pesp_network.proofs.Places.{tail_below, head_below}
 use Rattle.pesp_network.proofs.Tables.{kept_is, kept_next, free_next, total_more, total_at_most}
 use Rattle.pesp_network.proofs.walks.walks.Goals as goal
@@ -18,7 +18,7 @@ pub loop-i-preserved-then-is_kept : goal.loop-i-preserved-then-is_kept
 loop-i-preserved-then-is_kept c =
     let rows = c.args.rows.now in let arcs = arcs_of_network rows in let g = c.args.forest.now in
     let i = c.loop-i.i in let v = c.loop-i.invariant in
-    let e : is_kept arcs g (i + 1) ≡ true = sym (kept_is rows g i c.loop-i-test.true) ∙ sym c.is_kept.ensures ∙ c.if-is_kept.true in
+    let e : joins_upwards arcs g (i + 1) ≡ true = sym (kept_is rows g i c.loop-i-test.true) ∙ sym c.is_kept.ensures ∙ c.if-is_kept.true in
     let q = kept_next arcs g i e in
     record { table = v.table ∙ sym q; total = v.total ∙ ap signed_rows (sym q); small = v.small }
 
@@ -26,7 +26,7 @@ pub returns-then-total-gt-MOST_SIGNED_ROWS-clause-refused : goal.returns-then-to
 returns-then-total-gt-MOST_SIGNED_ROWS-clause-refused c =
     let rows = c.args.rows.now in let arcs = arcs_of_network rows in let g = c.args.forest.now in
     let i = c.loop-i.i in let v = c.loop-i.invariant.total in
-    let e : is_kept arcs g (i + 1) ≡ false = sym (kept_is rows g i c.loop-i-test.true) ∙ sym c.is_kept.ensures ∙ c.if-is_kept.false in
+    let e : joins_upwards arcs g (i + 1) ≡ false = sym (kept_is rows g i c.loop-i-test.true) ∙ sym c.is_kept.ensures ∙ c.if-is_kept.false in
     let more = total_more arcs g i e in
     let l = ap length c.in_ok-walk.ensures in let k = c.in_ok-walk.walk.ok.0 in let w = c.len-total.ensures in
     let most = total_at_most arcs g (i + 1) (length rows) (let t = c.loop-i-test.true in omega arith) in
@@ -37,7 +37,7 @@ pub loop-i-preserved : goal.loop-i-preserved
 loop-i-preserved c =
     let rows = c.args.rows.now in let arcs = arcs_of_network rows in let g = c.args.forest.now in
     let i = c.loop-i.i in let v = c.loop-i.invariant in
-    let e : is_kept arcs g (i + 1) ≡ false = sym (kept_is rows g i c.loop-i-test.true) ∙ sym c.is_kept.ensures ∙ c.if-is_kept.false in
+    let e : joins_upwards arcs g (i + 1) ≡ false = sym (kept_is rows g i c.loop-i-test.true) ∙ sym c.is_kept.ensures ∙ c.if-is_kept.false in
     let more = total_more arcs g i e in
     let vt = v.total in
     let l = ap length c.in_ok-walk.ensures in let k = c.in_ok-walk.walk.ok.0 in let w = c.len-total.ensures in

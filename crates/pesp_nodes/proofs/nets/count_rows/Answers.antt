@@ -5,7 +5,7 @@ use Rattle.std.proofs.lemmas.Int.{ints, to_z-of_z}
 use Rattle.std.proofs.lemmas.List.{length-set}
 use Rattle.pesp_problem.specs.declared.row.SignedRow.{SignedRow}
 use Rattle.pesp_problem.specs.Walks.{sign}
-use Rattle.pesp_nets.proofs.Counts.{count_small, count_step}
+use Rattle.pesp_problem.proofs.Counts.{count_small, count_step}
 use Rattle.pesp_nodes.proofs.nets.count_rows.Goals as goal
 
 none : SignedRow

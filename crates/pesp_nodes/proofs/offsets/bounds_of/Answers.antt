@@ -2,7 +2,7 @@ use Rattle.std.proofs.Common.{rules, FitsSigned, to_z, of_z, ◌≡◌, ◌∙�
 use Rattle.std.specs.Int.{w64, w128}
 use Rattle.std.proofs.lemmas.Int.{to_z-of_z}
 use Rattle.pesp_problem.specs.Sums.{ceil_div, floor_div}
-use Rattle.pesp_nets.proofs.Durations.{small_between}
+use Rattle.pesp_problem.proofs.Durations.{small_between}
 use Rattle.pesp_nodes.proofs.offsets.bounds_of.Goals as goal
 
 pub returns-clause-small : goal.returns-clause-small

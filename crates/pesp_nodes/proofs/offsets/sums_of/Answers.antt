@@ -4,9 +4,9 @@ use Rattle.std.specs.Prelude.{◌+ℤ◌}
 use Rattle.std.specs.Int.{w128}
 use Rattle.std.proofs.lemmas.Int.{ints}
 use Rattle.pesp_nodes.specs.declared.ends.End.TheVariants.{Low, High}
-use Rattle.pesp_nets.specs.declared.nets.NetCount.{NetCount}
+use Rattle.pesp_problem.specs.declared.nets.NetCount.{NetCount}
 use Rattle.pesp_nodes.specs.Offsets.{end_term}
-use Rattle.pesp_nets.proofs.Durations.{so_far_more}
+use Rattle.pesp_problem.proofs.Durations.{so_far_more}
 use Rattle.pesp_nodes.proofs.offsets.sums_of.Goals as goal
 
 none : NetCount

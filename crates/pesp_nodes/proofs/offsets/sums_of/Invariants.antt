@@ -1,6 +1,6 @@
 use Rattle.pesp_nodes.specs.declared.ends.End.TheVariants.{Low, High}
 use Rattle.pesp_nodes.specs.Offsets.{end_term}
-use Rattle.pesp_nets.proofs.Durations.{SoFar}
+use Rattle.pesp_problem.proofs.Durations.{SoFar}
 use Rattle.pesp_nodes.proofs.offsets.sums_of.Given as goal
 
 abbrev pub invariant-loop-net : goal.invariant-loop-net

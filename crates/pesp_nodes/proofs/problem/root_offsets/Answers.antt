@@ -5,7 +5,7 @@ use Rattle.std.proofs.lemmas.List.{get_or_default}
 use Rattle.std.proofs.lemmas.List.Elements.{All-push}
 use Rattle.pesp_problem.specs.Nodes as spec
 use Rattle.pesp_problem.specs.Nodes.{cycle_at}
-use Rattle.pesp_nets.specs.Nets.{AreNetCounts, nets_at}
+use Rattle.pesp_problem.specs.Nets.{AreNetCounts, nets_at}
 use Rattle.pesp_nodes.specs.Offsets.{IsOffsetEnds, AreOffsetEnds, IsSmallRange}
 use Rattle.pesp_nodes.proofs.Keeping.{ranges_more, pair_is}
 use Rattle.pesp_nodes.proofs.problem.root_offsets.Goals as goal

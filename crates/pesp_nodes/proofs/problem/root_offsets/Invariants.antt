@@ -1,7 +1,7 @@
 use Rattle.std.proofs.Common.{◌≡◌, List, map, length, take, All}
 use Rattle.pesp_problem.specs.Nodes as spec
 use Rattle.pesp_problem.specs.declared.row.SignedRow.{SignedRow}
-use Rattle.pesp_nets.specs.Nets.{AreNets}
+use Rattle.pesp_problem.specs.Nets.{AreNets}
 use Rattle.pesp_nodes.specs.Offsets.{AreOffsetEnds, IsSmallRange}
 use Rattle.pesp_nodes.proofs.problem.root_offsets.Given as goal
 

@@ -4,9 +4,9 @@ use Rattle.std.specs.Prelude.{ℤ, ◌+ℤ◌}
 use Rattle.std.specs.Int.{w128}
 use Rattle.std.proofs.lemmas.Int.{ints}
 use Rattle.std.proofs.lemmas.List.{take_all}
-use Rattle.pesp_nets.specs.declared.nets.NetCount.{NetCount}
-use Rattle.pesp_nets.specs.Nets.{sum_of}
-use Rattle.pesp_nets.proofs.Durations.{SoFar, so_far_more}
+use Rattle.pesp_problem.specs.declared.nets.NetCount.{NetCount}
+use Rattle.pesp_problem.specs.Nets.{sum_of}
+use Rattle.pesp_problem.proofs.Durations.{SoFar, so_far_more}
 use Rattle.pesp_nodes.proofs.Singles.{term_of, gains_are}
 use Rattle.pesp_nodes.proofs.single.gains.Goals as goal
 

@@ -1,4 +1,4 @@
-use Rattle.pesp_nets.proofs.Durations.{SoFar}
+use Rattle.pesp_problem.proofs.Durations.{SoFar}
 use Rattle.pesp_nodes.proofs.Singles.{term_of}
 use Rattle.pesp_nodes.proofs.single.gains.Given as goal
 

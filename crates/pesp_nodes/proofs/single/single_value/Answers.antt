@@ -7,9 +7,9 @@ use Rattle.pesp_problem.specs.Sums.{scaled}
 use Rattle.pesp_problem.specs.Arcs.{over_arcs}
 use Rattle.pesp_problem.specs.Walks.{net_count}
 use Rattle.pesp_problem.specs.Nodes.{cycle_at}
-use Rattle.pesp_nets.specs.Nets.{AreNetCounts, nets_at}
-use Rattle.pesp_nodes.specs.Problems.{net_of}
-use Rattle.pesp_nodes.specs.Values.{gain_at}
+use Rattle.pesp_problem.specs.Nets.{AreNetCounts, nets_at}
+use Rattle.pesp_nodes.specs.Problems.{problem_net}
+use Rattle.pesp_nodes.specs.Values.{flow_gain_at}
 use Rattle.pesp_nodes.proofs.Rising.{nothing_rises}
 use Rattle.pesp_nodes.proofs.Singles.{gains_same, single_is}
 use Rattle.pesp_nodes.proofs.Sizes.{value_small}
@@ -51,14 +51,14 @@ returns c =
     ∙ c.index-nets-place.is ∙ get_or_default c.nets.result.now place c.index-nets-place.result [] inside in
     let here : AreNetCounts (length c.arcs.result.now) (cycle_at p.table place) c.counts-counts.result.now =
     rw (at, c.arcs.ensures.rows) (nets.each place inside) in
-    let rows : c.gains-rows.result ≡ over_arcs (net_of p).arcs
-    (λ i. gain_at (net_of p).arcs c.args.node.now.slacks i
+    let rows : c.gains-rows.result ≡ over_arcs (problem_net p).arcs
+    (λ i. flow_gain_at (problem_net p).arcs c.args.node.now.slacks i
     (pair.mult *ℤ net_count (cycle_at p.table place) i)) =
     c.gains-rows.ensures.value (cycle_at p.table place) here
-    ∙ gains_same c.arcs.result.now (net_of p).arcs c.slacks.result.now c.args.node.now.slacks
+    ∙ gains_same c.arcs.result.now (problem_net p).arcs c.slacks.result.now c.args.node.now.slacks
     (λ i. pair.mult *ℤ net_count (cycle_at p.table place) i) c.arcs.ensures.arcs c.slacks.ensures.slacks in
     let offsets : c.offset_term-offsets.result
-    ≡ pos (net_of p).period *ℤ scaled pair.mult c.in_ok-left.left.0 c.in_ok-left.left.1 =
+    ≡ pos (problem_net p).period *ℤ scaled pair.mult c.in_ok-left.left.0 c.in_ok-left.left.1 =
     rw (to_z-of_z w64 pair.mult mult_fits, c.period.ensures.period) at c.offset_term-offsets.ensures.value in
     let sum = rw (
       to_z-of_z w128 c.offset_term-offsets.result offsets_fit,
@@ -67,7 +67,7 @@ returns c =
     let total = rw (to_z-of_z w128 c.args.none none_fits, to_z-of_z w128 c.plus.result sum_fits) at c.plus-2.ensures.value in
     let add : ℤ → ℤ = λ z. c.args.none +ℤ z in
     ap Some (to_z-of_z w128 c.plus-2.result total_fits)
-    ∙ single_is (net_of p) p.table c.args.node.now pair c.in_ok-left.left c.args.none c.offset_term-offsets.result
+    ∙ single_is (problem_net p) p.table c.args.node.now pair c.in_ok-left.left c.args.none c.offset_term-offsets.result
     c.gains-rows.result c.plus-2.result c.requires.none c.in_ok-left.ensures.value offsets rows
     (total ∙ ap add sum)
 

@@ -4,9 +4,9 @@ use Rattle.std.specs.Int.{w128}
 use Rattle.std.proofs.lemmas.Int.{ints}
 use Rattle.pesp_problem.specs.Arcs.{over_arcs}
 use Rattle.pesp_problem.specs.Nodes.{flow}
-use Rattle.pesp_nodes.specs.Problems.{net_of}
-use Rattle.pesp_nets.specs.Nets.{AreNets}
-use Rattle.pesp_nets.specs.Ranges.{AreSlackEnds}
+use Rattle.pesp_nodes.specs.Problems.{problem_net}
+use Rattle.pesp_problem.specs.Nets.{AreNets}
+use Rattle.pesp_problem.specs.Ranges.{AreSlackEnds}
 use Rattle.pesp_nodes.specs.Flows.{AreFlows}
 use Rattle.pesp_nodes.specs.Passages.{ArePassages}
 use Rattle.pesp_nodes.specs.Values.{row_term_at}
@@ -23,8 +23,8 @@ returns c =
     let nets : AreNets (length c.arcs-arcs.result.now) table c.nets.result.now = rw c.arcs-arcs.ensures.rows c.nets.ensures.nets in
     let flows : AreFlows table c.args.pairs.now c.flows_of-flows.result.items = c.flows_of-flows.ensures.flows table nets in
     let rows = c.row_sum-rows.ensures.value table are (λ k d l. (c.requires.pairs.each k d l).names) (rw c.deref.ensures.value flows) in
-    let rows_are : c.row_sum-rows.result ≡ over_arcs (net_of c.args.problem.now).arcs
-    (λ i. row_term_at (net_of c.args.problem.now).arcs c.args.node.now.slacks c.args.weighted i
+    let rows_are : c.row_sum-rows.result ≡ over_arcs (problem_net c.args.problem.now).arcs
+    (λ i. row_term_at (problem_net c.args.problem.now).arcs c.args.node.now.slacks c.args.weighted i
     (flow c.args.problem.now.table c.args.pairs.now i)) =
     rw (c.arcs-arcs.ensures.arcs, c.slacks.ensures.slacks) at rows in
     let offsets_size = c.in_ok-offsets.ensures.size in
@@ -32,7 +32,7 @@ returns c =
     let total : to_z w128 (of_z w128 c.plus.result)
     ≡ c.in_ok-offsets.offsets +ℤ c.row_sum-rows.result =
     (let value = c.plus.ensures.value in omega (arith, ints)) in
-    let value = value_is (net_of c.args.problem.now) c.args.problem.now.table c.args.node.now c.args.pairs.now
+    let value = value_is (problem_net c.args.problem.now) c.args.problem.now.table c.args.node.now c.args.pairs.now
     c.args.weighted c.in_ok-offsets.offsets c.row_sum-rows.result _ c.in_ok-offsets.ensures.value rows_are
     total in
     let ends : AreSlackEnds c.args.node.now.slacks = c.slacks.ensures.ends in

@@ -1,7 +1,7 @@
 use Rattle.std.proofs.Common.{◌≡◌, ◌<◌, ◌∙◌, [], length, arith, refl}
 use Rattle.std.proofs.lemmas.List.{get_or_default}
 use Rattle.pesp_problem.specs.Nodes.{cycle_at}
-use Rattle.pesp_nets.specs.Nets.{AreNetCounts, nets_at}
+use Rattle.pesp_problem.specs.Nets.{AreNetCounts, nets_at}
 use Rattle.pesp_nodes.proofs.value.left_at.Goals as goal
 
 pub returns-clause-value : goal.returns-clause-value

@@ -5,7 +5,7 @@ use Rattle.std.specs.Int.{w64, w128}
 use Rattle.std.proofs.lemmas.Int.{ints, to_z-of_z}
 use Rattle.pesp_problem.specs.declared.pair.Pair.{Pair}
 use Rattle.pesp_problem.specs.Sums.{scaled}
-use Rattle.pesp_nodes.specs.Problems.{net_of}
+use Rattle.pesp_nodes.specs.Problems.{problem_net}
 use Rattle.pesp_nodes.proofs.LeafValues.{few_pairs, few_all, offset_sum_more}
 use Rattle.pesp_nodes.proofs.value.offset_sum.Goals as goal
 
@@ -41,7 +41,7 @@ loop-pair-preserved c =
     let sum : to_z w128 (of_z w128 c.plus-sum.result)
     ≡ to_z w128 c.loop-pair.sum-bits +ℤ c.offset_term.result =
     (let value = c.plus-sum.ensures.value in omega (arith, ints)) in
-    offset_sum_more (net_of c.args.problem.now) c.args.problem.now.table c.args.node.now c.args.pairs.now
+    offset_sum_more (problem_net c.args.problem.now) c.args.problem.now.table c.args.node.now c.args.pairs.now
     c.loop-pair.pair-index none c.in_ok-left.left
     (to_z w128 c.loop-pair.sum-bits) c.offset_term.result _ c.loop-pair-test.true c.in_ok-left.ensures.value
     here here_size sum c.loop-pair.invariant

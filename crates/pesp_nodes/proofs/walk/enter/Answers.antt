@@ -1,6 +1,6 @@
 use Rattle.std.proofs.Common.{arith}
 use Rattle.std.proofs.lemmas.Grind.{common_steps}
-use Rattle.pesp_nets.proofs.Walking.{enter_parts}
+use Rattle.pesp_problem.proofs.Walking.{enter_parts}
 use Rattle.pesp_nodes.proofs.walk.enter.Goals as goal
 
 pub returns-clause-parts : goal.returns-clause-parts

@@ -4,7 +4,7 @@ use Rattle.std.proofs.lemmas.Bool.Decides.{nat_tests}
 use Rattle.pesp_problem.specs.declared.cut.Side.TheVariants.{High}
 use Rattle.pesp_problem.specs.declared.cut.Cut.{Cut}
 use Rattle.pesp_problem.specs.Nodes.{part}
-use Rattle.pesp_nets.proofs.Walking.{turn_parts}
+use Rattle.pesp_problem.proofs.Walking.{turn_parts}
 use Rattle.pesp_nodes.proofs.walk.next_part.Goals as goal
 
 pub returns-in-Low-clause-parts : goal.returns-in-Low-clause-parts

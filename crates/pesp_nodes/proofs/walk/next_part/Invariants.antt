@@ -1,6 +1,6 @@
 use Rattle.std.proofs.Common.{◌≡◌, List, length, reverse, vec_len}
 use Rattle.pesp_problem.specs.Nodes.{Node}
-use Rattle.pesp_nets.specs.Pending.{pending}
+use Rattle.pesp_problem.specs.Pending.{pending}
 use Rattle.pesp_nodes.specs.Pending.{AreChanges}
 use Rattle.pesp_nodes.proofs.walk.next_part.Given as goal
 

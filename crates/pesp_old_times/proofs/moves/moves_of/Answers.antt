@@ -1,11 +1,11 @@
 use Rattle.std.proofs.Common.{◌∙◌, refl, sym, ap, ap₂, arith, ℕ, ◌+◌}
 use Rattle.std.specs.Prelude.{max}
-use Rattle.pesp_old_times.specs.Moves.{farthest, moved, some_move}
+use Rattle.pesp_old_times.specs.Moves.{farthest, count_moved, some_move}
 use Rattle.pesp_old_times.proofs.Moved.{farthest-more, moved-more}
 use Rattle.pesp_old_times.proofs.moves.moves_of.Goals as goal
 
 pub loop-place-init : goal.loop-place-init
-unfolding moved farthest
+unfolding count_moved farthest
 loop-place-init c = record { count = refl; small = omega arith; top = refl }
 
 pub loop-place-preserved : goal.loop-place-preserved

@@ -1,16 +1,16 @@
 use Rattle.std.proofs.Common.{◌≡◌, ◌<◌, ℕ, length, ap, sym, arith, subst, List, Bool}
 use Rattle.pesp_network.specs.declared.row.NetRow.{NetRow}
 use Rattle.pesp_network.specs.Networks.{net_row_at}
-use Rattle.pesp_reduce.specs.Rows.{flag, part}
+use Rattle.pesp_reduce.specs.Rows.{flag, row_or_loop}
 use Rattle.pesp_reduce.specs.Contractions.{AreTree}
 use Rattle.pesp_reduce.proofs.Contracting.{keeps_some, are_tree}
 use Rattle.pesp_reduce.proofs.contraction.tree_of.Goals as goal
 
 each_part : (rows lent made : List NetRow) (flags : List Bool) → lent ≡ rows
-    → ((i : ℕ) → i < length lent → net_row_at made i ≡ part (flag flags i) (net_row_at lent i)) → (i : ℕ)
-    → i < length rows → net_row_at made i ≡ part (flag flags i) (net_row_at rows i)
+    → ((i : ℕ) → i < length lent → net_row_at made i ≡ row_or_loop (flag flags i) (net_row_at lent i)) → (i : ℕ)
+    → i < length rows → net_row_at made i ≡ row_or_loop (flag flags i) (net_row_at rows i)
 each_part rows lent made flags e each = subst (λ (xs : List NetRow). (i : ℕ) → i < length xs
-    → net_row_at made i ≡ part (flag flags i) (net_row_at xs i)) e each
+    → net_row_at made i ≡ row_or_loop (flag flags i) (net_row_at xs i)) e each
 
 pub network_of-requires : goal.network_of-requires
 network_of-requires c =

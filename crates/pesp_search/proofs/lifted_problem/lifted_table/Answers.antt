@@ -1,6 +1,6 @@
 use Rattle.std.proofs.Common.{◌+◌, ◌<◌, List, [], length, sym, ◌∙◌, subst}
 use Rattle.pesp_problem.specs.declared.row.SignedRow.{SignedRow}
-use Rattle.pesp_search_laws.proofs.Tables.{any_default}
+use Rattle.pesp_branching.proofs.Tables.{any_default}
 use Rattle.pesp_search.proofs.Lifting.{AreLiftedTo, lifted_more}
 use Rattle.pesp_search.proofs.lifted_problem.lifted_table.Goals as goal
 

@@ -1,7 +1,7 @@
 use Rattle.std.proofs.Common.{List, subst}
 use Rattle.std.specs.Prelude.{IfOk}
 use Rattle.pesp_problem.specs.declared.row.SignedRow.{SignedRow}
-use Rattle.pesp_search_laws.specs.Lifted.{AreLifted}
+use Rattle.pesp_branching.specs.Lifted.{AreLifted}
 use Rattle.pesp_search.proofs.Beginnings.{few_there, searched_there}
 use Rattle.pesp_search.proofs.lifted_problem.problem_for.Goals as goal
 

@@ -3,7 +3,7 @@ use Rattle.pesp_problem.specs.Timetables.{Pesp}
 use Rattle.pesp_problem.specs.Limits.{KeepsLimits}
 use Rattle.pesp_problem.specs.Arcs.{arcs_of}
 use Rattle.pesp_network.specs.Networks.{NetworkValue, arcs_of_network}
-use Rattle.pesp_search_laws.specs.Lifted.{AreLifted, IsFrugal}
+use Rattle.pesp_branching.specs.Lifted.{AreLifted, IsFrugal}
 use Rattle.pesp_search.proofs.Lifting.{none_open, large_has_many_rows}
 use Rattle.pesp_search.proofs.lifted_problem.problem_of.Goals as goal
 

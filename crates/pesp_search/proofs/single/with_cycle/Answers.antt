@@ -1,7 +1,7 @@
 use Rattle.std.proofs.Common.{true}
 use Rattle.std.specs.Prelude.{◌≤ℤ◌, IfSome}
 use Rattle.pesp_problem.specs.Nodes.{leaf_value}
-use Rattle.pesp_nodes.specs.Problems.{net_of}
+use Rattle.pesp_nodes.specs.Problems.{problem_net}
 use Rattle.pesp_search.specs.declared.single.Valued.{Valued}
 use Rattle.pesp_search.specs.Singles.{plus_pair}
 use Rattle.pesp_search.proofs.SinglePairs.{if_ok, le_chain, up_to_trans}
@@ -17,7 +17,7 @@ returns-clause-no_less c =
 pub returns-clause-plus : goal.returns-clause-plus
 returns-clause-plus c =
     let better = c.in_ok-better.better.value in
-    let value = leaf_value (net_of c.args.problem.now) c.args.problem.now.table c.args.node.now (plus_pair c.args.cycle) true in
+    let value = leaf_value (problem_net c.args.problem.now) c.args.problem.now.table c.args.node.now (plus_pair c.args.cycle) true in
     if_ok c.with_pair-2.result (λ (b : Valued). better ≤ℤ b.value)
     (λ (b : Valued). IfSome value (λ v. v ≤ℤ b.value))
     (λ b h. up_to_trans value better b.value c.in_ok-better.ensures.pair h) c.with_pair-2.ensures.no_less

@@ -1,11 +1,11 @@
 use Rattle.std.proofs.Common.{◌≤◌, length, sym, ◌∙◌, subst, rules}
 use Rattle.pesp_nodes.specs.Problems.{ProblemValue}
-use Rattle.pesp_machine.specs.Certificates.{IsProblemOf}
-use Rattle.pesp_search_laws.specs.Lifted.{IsFrugal}
+use Rattle.pesp_tree.specs.Certificates.{IsProblemOf}
+use Rattle.pesp_branching.specs.Lifted.{IsFrugal}
 use Rattle.pesp_turns.specs.declared.known.Known.{Known}
 use Rattle.pesp_turns.specs.Knowing.{IsKnown}
 use Rattle.pesp_turns.specs.Settling.{IsSearched}
-use Rattle.pesp_search_laws.specs.Turns.{IsWorked}
+use Rattle.pesp_branching.specs.Turns.{IsWorked}
 use Rattle.pesp_search.specs.Rooting.{IsRootBound}
 use Rattle.pesp_search.specs.Searching.{AreAllTurns, IsAsCheapAs}
 use Rattle.pesp_search.specs.Solving.{IsSearchRefusal}

@@ -1,7 +1,7 @@
 use Rattle.std.proofs.Common.{◌∙◌, ap}
 use Rattle.pesp_truth.specs.Certificates.{lines_of}
 use Rattle.pesp_cert.specs.Fronted.{Fronted}
-use Rattle.pesp_search_laws.specs.Rooms.{branch_lines}
+use Rattle.pesp_branching.specs.Rooms.{branch_lines}
 use Rattle.pesp_sharp_search.proofs.Choices.{sharp_solved}
 use Rattle.pesp_sharp_search.proofs.choice.settled.Goals as goal
 

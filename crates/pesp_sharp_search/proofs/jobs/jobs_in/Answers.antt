@@ -1,8 +1,8 @@
 use Rattle.std.proofs.Common.{◌≡◌, ◌+◌, ℕ, ◌<◌, ◌++◌, ◌∙◌, ap, sym, refl, subst, arith, [], List, length, map, get_or, Bool, true, Option, None}
 use Rattle.std.proofs.lemmas.List.{length-map, get_or_default}
-use Rattle.pesp_truth.specs.Certificates.{line_of}
-use Rattle.pesp_sharp_search.specs.Jobs.{Path, SharpJob, told_job, job_at, after}
-use Rattle.pesp_sharp_search.specs.Paths.{waiting, passed}
+use Rattle.pesp_truth.specs.Trees.{line_of}
+use Rattle.pesp_sharp_search.specs.Jobs.{Path, SharpJob, told_job, jobs_at_line, paths_after}
+use Rattle.pesp_sharp_search.specs.Paths.{paths_waiting, paths_passed}
 use Rattle.pesp_sharp_search.proofs.Listing.{one_listed, none_left}
 use Rattle.pesp_sharp_search.proofs.jobs.jobs_in.Goals as goal
 
@@ -16,13 +16,13 @@ returns-then-not-waits c =
     let value : Option ℕ = get_or shown k None in
     let shows : value ≡ get_or shown k value = get_or_default shown k None value within in
     let P : Path → Type 0 = λ q. map told_job c.add_if_open.new.opens.items
-    ≡ jobs ++ job_at c.args.cost (length c.loop-place.opens.items) q value in
+    ≡ jobs ++ jobs_at_line c.args.cost (length c.loop-place.opens.items) q value in
     let more = subst P c.deref.ensures.value c.in_ok-add_if_open.ensures
-    ∙ ap (λ (n : ℕ). jobs ++ job_at c.args.cost n path value) (sym (length-map c.loop-place.opens.items told_job)) in
-    let W : Bool → Type 0 = λ b. ◌≡◌ {A = List Path} (waiting b c.pass.new.path.items)
-    (after (line_of c.index-lines-place.result) (waiting true path)) in
+    ∙ ap (λ (n : ℕ). jobs ++ jobs_at_line c.args.cost n path value) (sym (length-map c.loop-place.opens.items told_job)) in
+    let W : Bool → Type 0 = λ b. ◌≡◌ {A = List Path} (paths_waiting b c.pass.new.path.items)
+    (paths_after (line_of c.index-lines-place.result) (paths_waiting true path)) in
     none_left c.args.cost c.args.lines.now c.args.shown.now (k + 1) [] (map told_job c.add_if_open.new.opens.items)
-    (one_listed c.args.cost c.args.lines.now c.args.shown.now k (waiting true path) jobs c.loop-place.invariant
-    c.index-lines-place.result value path (passed path) [] (map told_job c.add_if_open.new.opens.items)
+    (one_listed c.args.cost c.args.lines.now c.args.shown.now k (paths_waiting true path) jobs c.loop-place.invariant
+    c.index-lines-place.result value path (paths_passed path) [] (map told_job c.add_if_open.new.opens.items)
     c.loop-place-test.true c.index-lines-place.is within shows refl more
     (subst W c.if-not-waits.true c.in_ok-waits.ensures)) refl

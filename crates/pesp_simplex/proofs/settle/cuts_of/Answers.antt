@@ -1,7 +1,7 @@
 use Rattle.std.proofs.Common.{ℕ, length, subst, sym, ◌∙◌}
 use Rattle.pesp_problem.specs.Roots.{AreRoots}
-use Rattle.pesp_shifts.specs.Rooted.{roots_of, IsFor}
-use Rattle.pesp_shifts.specs.Lists.{AreListed}
+use Rattle.pesp_propagate.specs.Rooted.{roots_of, IsFor}
+use Rattle.pesp_propagate.specs.Lists.{AreListed}
 use Rattle.pesp_simplex.proofs.settle.cuts_of.Goals as goal
 
 pub list_cuts-requires-clause-lists : goal.list_cuts-requires-clause-lists

@@ -1,7 +1,7 @@
 use Rattle.std.proofs.Common.{ℕ, subst, sym}
 use Rattle.pesp_problem.specs.ArcLimits.{KeepArcLimits}
-use Rattle.pesp_shifts.specs.Rooted.{roots_of}
-use Rattle.pesp_shifts.proofs.Locals.{cuts_are_local}
+use Rattle.pesp_propagate.specs.Rooted.{roots_of}
+use Rattle.pesp_propagate.proofs.Locals.{cuts_are_local}
 use Rattle.pesp_simplex.proofs.settle.is_local.Goals as goal
 
 pub slacks_of-requires : goal.slacks_of-requires

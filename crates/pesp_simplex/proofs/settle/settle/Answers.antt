@@ -1,6 +1,6 @@
 use Rattle.std.proofs.Common.{ℕ, arith, refl, rules, subst, sym}
 use Rattle.pesp_problem.specs.ArcLimits.{HaveEnds}
-use Rattle.pesp_shifts.specs.Rooted.{roots_of}
+use Rattle.pesp_propagate.specs.Rooted.{roots_of}
 use Rattle.pesp_problem.proofs.Spanning.{roots_span}
 use Rattle.pesp_simplex.proofs.settle.settle.Goals as goal
 

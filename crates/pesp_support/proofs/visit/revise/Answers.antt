@@ -1,7 +1,7 @@
 use Rattle.std.proofs.Common.{◌≡◌, Bool, true, false, subst}
 use Rattle.std.specs.Prelude.{IsTrue}
 use Rattle.pesp_support.specs.Sets.{family_at}
-use Rattle.pesp_support.specs.Windows.{Narrows}
+use Rattle.pesp_support.specs.Windows.{NarrowsFamily}
 use Rattle.pesp_support.proofs.Revising.{AreWindows, tail_refutes, head_refutes, narrowed}
 use Rattle.pesp_support.proofs.visit.revise.Goals as goal
 
@@ -35,7 +35,7 @@ returns-then-not-has_some-2 c =
       back_is = c.windows.ensures.back;
       count_is = c.windows.ensures.count;
     } in
-    let two = subst (λ n. Narrows c.args.period c.args.arc.now.head c.args.arc.now.tail w.1.first n
+    let two = subst (λ n. NarrowsFamily c.args.period c.args.arc.now.head c.args.arc.now.tail w.1.first n
     (family_at c.args.period c.narrow-tail.new.words) (family_at c.args.period c.narrow-head.new.words))
     c.windows.ensures.same c.narrow-head.ensures.narrows in
     head_refutes c.args.period c.args.shift c.args.arc.now c.args.range.0 c.args.range.1 w.0.first w.1.first
@@ -54,7 +54,7 @@ returns c =
       back_is = c.windows.ensures.back;
       count_is = c.windows.ensures.count;
     } in
-    let two = subst (λ n. Narrows c.args.period c.args.arc.now.head c.args.arc.now.tail w.1.first n
+    let two = subst (λ n. NarrowsFamily c.args.period c.args.arc.now.head c.args.arc.now.tail w.1.first n
     (family_at c.args.period c.narrow-tail.new.words) (family_at c.args.period c.narrow-head.new.words))
     c.windows.ensures.same c.narrow-head.ensures.narrows in
     narrowed c.args.period c.args.shift c.args.arc.now c.args.range.0 c.args.range.1 w.0.first w.1.first w.0.count

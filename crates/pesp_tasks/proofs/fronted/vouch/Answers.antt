@@ -3,7 +3,7 @@ use Rattle.pesp_tasks.proofs.SharpSolutions.{has_text_of}
 use Rattle.pesp_tasks.proofs.fronted.vouch.Goals as goal
 
 pub returns-clause-is_true : goal.returns-clause-is_true
-returns-clause-is_true c = c.valid_behind_is_true.ensures _ c.args.instance.now _
+returns-clause-is_true c = c.valid_is_true.ensures _ c.args.instance.now _
     (omega (arith, c.period.ensures.limits.some_period)) c.requires
 
 pub returns-clause-has_text : goal.returns-clause-has_text

@@ -1,5 +1,5 @@
 use Rattle.std.proofs.Common.{rules, ◌≡◌, [], ◌∷◌, map, reverse}
-use Rattle.pesp_truth.specs.Certificates.{line_of}
+use Rattle.pesp_truth.specs.Trees.{line_of}
 use Rattle.pesp_tree.proofs.Holding.{few_branchings}
 use Rattle.pesp_tree.proofs.Walking.{at_start, loop_known, loop_step, loop_smaller}
 use Rattle.pesp_tree.proofs.preorder.lines_of.Goals as goal

@@ -1,5 +1,5 @@
 use Rattle.std.proofs.Common.{◌-◌, length, map, reverse}
-use Rattle.pesp_truth.specs.Certificates.{line_of}
+use Rattle.pesp_truth.specs.Trees.{line_of}
 use Rattle.pesp_tree.proofs.Walking.{Walked}
 use Rattle.pesp_tree.proofs.preorder.lines_of.Given as goal
 

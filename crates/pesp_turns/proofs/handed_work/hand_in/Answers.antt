@@ -1,6 +1,6 @@
 use Rattle.std.proofs.Common.{◌≡◌, ◌⊎◌, inl, inr}
-use Rattle.pesp_machine.specs.declared.refusal.GiveRefusal.TheVariants.{NotValid, Memory, TooLarge}
-use Rattle.pesp_search_laws.proofs.Replies.{refused_for_room}
+use Rattle.pesp_tree.specs.declared.refusal.GiveRefusal.TheVariants.{NotValid, Memory, TooLarge}
+use Rattle.pesp_branching.proofs.Replies.{refused_for_room}
 use Rattle.pesp_turns.proofs.handed_work.hand_in.Goals as goal
 
 never : (NotValid ≡ Memory) ⊎ (NotValid ≡ TooLarge) → ⊥

@@ -1,4 +1,4 @@
-use Rattle.pesp_search_laws.proofs.Replies.{lent_here}
+use Rattle.pesp_branching.proofs.Replies.{lent_here}
 use Rattle.pesp_turns.proofs.Lent.{lent_pairs, split_cut, handed_step, step_given}
 use Rattle.pesp_turns.proofs.leaf_split.give_found.Goals as goal
 

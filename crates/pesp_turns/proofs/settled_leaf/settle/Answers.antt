@@ -1,6 +1,6 @@
 use Rattle.std.proofs.Common.{inl, inr, refl, subst}
 use Rattle.pesp_nodes.specs.Problems.{ProblemValue}
-use Rattle.pesp_turns.specs.Turning.{IsReached}
+use Rattle.pesp_turns.specs.Turning.{IsSettledByTimes}
 use Rattle.pesp_turns.proofs.settled_leaf.settle.Goals as goal
 
 pub returns-in_default-clause-settles : goal.returns-in_default-clause-settles
@@ -14,7 +14,7 @@ returns-then-not-is_reached-clause-settles c = inr (record {
     kept = c.offer.result;
     offers = c.offer.ensures.state;
   };
-  unreached = subst (λ (x : ProblemValue). IsReached x c.offer.new.self.state c.args.job.now.number → ⊥)
+  unreached = subst (λ (x : ProblemValue). IsSettledByTimes x c.offer.new.self.state c.args.job.now.number → ⊥)
       c.offer.ensures.problem (c.is_reached.ensures.unreached c.if-not-is_reached.true);
 })
 
@@ -27,7 +27,7 @@ returns-clause-settles c = record {
     kept = c.offer.result;
     offers = c.offer.ensures.state;
   };
-  reached = subst (λ (x : ProblemValue). IsReached x c.offer.new.self.state c.args.job.now.number)
+  reached = subst (λ (x : ProblemValue). IsSettledByTimes x c.offer.new.self.state c.args.job.now.number)
       c.offer.ensures.problem (c.is_reached.ensures.reached c.if-not-is_reached.false);
   back = c.recall.result;
   recalls = c.recall.ensures.state;

@@ -1,9 +1,9 @@
 use Rattle.std.proofs.Common.{sym, subst}
 use Rattle.pesp_problem.specs.Nodes.{Node, LeavesBoth}
 use Rattle.pesp_truth.specs.Trees.{CutExists}
-use Rattle.pesp_nodes.specs.Problems.{ProblemValue, net_of, IsNodeOf}
-use Rattle.pesp_search_laws.specs.Rooms.{IsCounted}
-use Rattle.pesp_search_laws.specs.Settled.{IsSettled}
+use Rattle.pesp_nodes.specs.Problems.{ProblemValue, problem_net, IsNodeOf}
+use Rattle.pesp_branching.specs.Rooms.{IsCounted}
+use Rattle.pesp_branching.specs.Settled.{IsSettled}
 use Rattle.pesp_turns.proofs.Lent.{cuts_there, node_is}
 use Rattle.pesp_turns.proofs.Turned.{large_turn, split_turn}
 use Rattle.pesp_turns.proofs.turn.turn_on.Goals as goal
@@ -24,7 +24,7 @@ pub close_at-requires-clause-node : goal.close_at-requires-clause-node
 close_at-requires-clause-node g c = c.in_ok-node.ensures.node c.args.board.now.problem c.requires.known.node
 
 pub close_at-requires-clause-settled : goal.close_at-requires-clause-settled
-close_at-requires-clause-settled g c = subst (λ (x : ProblemValue). IsSettled (net_of x) x.table c.in_ok-node.node)
+close_at-requires-clause-settled g c = subst (λ (x : ProblemValue). IsSettled (problem_net x) x.table c.in_ok-node.node)
     c.problem.ensures (rw c.in_default.is at c.choose.ensures.none)
 
 pub split_leaf-requires-clause-split : goal.split_leaf-requires-clause-split
@@ -33,9 +33,9 @@ split_leaf-requires-clause-split g c =
     c.in_ok-node.node c.requires.known.root c.deref.ensures.value c.in_ok-node.ensures.at in
     record {
       lent = c.requires.lent;
-      exists = subst (λ (x : ProblemValue). CutExists (net_of x) x.table c.in-Some.choice.cut) c.problem.ensures c.in-Some.ensures.exists;
+      exists = subst (λ (x : ProblemValue). CutExists (problem_net x) x.table c.in-Some.choice.cut) c.problem.ensures c.in-Some.ensures.exists;
       both = subst (λ (n : Node). LeavesBoth n c.in-Some.choice.cut) at c.in-Some.ensures.both;
-      counted = subst (λ (x : ProblemValue). IsCounted (net_of x) x.table c.in-Some.choice.cut) c.problem.ensures c.in-Some.ensures.counted;
+      counted = subst (λ (x : ProblemValue). IsCounted (problem_net x) x.table c.in-Some.choice.cut) c.problem.ensures c.in-Some.ensures.counted;
     }
 
 pub split_leaf-requires-clause-node : goal.split_leaf-requires-clause-node

@@ -1,6 +1,6 @@
 use Rattle.std.proofs.Common.{◌≡◌, ◌∷◌, [], List, length, sym, ap, subst, ◌∙◌, append_assoc, append-nil, arith}
 use Rattle.std.specs.Vec.Iter.{into_iter_items}
-use Rattle.pesp_works.specs.Works.{WorkValue}
+use Rattle.pesp_cert_items.specs.Works.{WorkValue}
 use Rattle.pesp_worker.specs.Grafts.{TakesWorks}
 use Rattle.pesp_worker.proofs.Opening.{nothing_left}
 use Rattle.pesp_worker.proofs.Taking.{more_taken}

@@ -1,7 +1,7 @@
 use Rattle.std.proofs.Common.{◌≡◌, ◌∷◌, [], ◌++◌, List, length, sym, ap, subst, ◌∙◌, append_assoc, append-nil, arith}
 use Rattle.std.specs.Vec.Iter.{into_iter_items}
-use Rattle.pesp_machine.specs.declared.job.Job.{Job}
-use Rattle.pesp_machine.specs.Adopting.{LendsEach}
+use Rattle.pesp_tree.specs.declared.job.Job.{Job}
+use Rattle.pesp_tree.specs.Adopting.{LendsEach}
 use Rattle.pesp_worker.proofs.Lending.{one_lent}
 use Rattle.pesp_worker.proofs.Opening.{nothing_left, one_more_job, one_more_value}
 use Rattle.pesp_worker.proofs.jobs.valued_jobs.Goals as goal

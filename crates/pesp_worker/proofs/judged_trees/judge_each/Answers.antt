@@ -1,8 +1,8 @@
 use Rattle.std.proofs.Common.{◌≡◌, ◌∷◌, [], ◌++◌, List, length, refl, sym, ap, subst, ◌∙◌, append_assoc, append-nil, arith}
 use Rattle.std.specs.Vec.Iter.{into_iter_items}
-use Rattle.pesp_works.specs.Works.{WorkValue}
+use Rattle.pesp_cert_items.specs.Works.{WorkValue}
 use Rattle.pesp_worker.proofs.Opening.{nothing_left}
-use Rattle.pesp_worker.specs.HandingIn.{AreJudged}
+use Rattle.pesp_worker.specs.HandingIn.{AreHandedIn}
 use Rattle.pesp_worker.proofs.Works.{none_judged, judged_next, lent_still, this_is_lent, all_judged, rise_of}
 use Rattle.pesp_worker.proofs.judged_trees.judge_each.Goals as goal
 
@@ -55,7 +55,7 @@ returns c =
     let none = c.in-None.ensures.steps in
     let empty : into_iter_items at.work-iterator ≡ [] = nothing_left _ (at.invariant.count ∙ none.0) in
     let all = sym (append-nil at.yielded) ∙ rw empty at at.invariant.all ∙ c.into_iter-work-iterator.ensures.into_iter_gives.0 in
-    subst (λ (found : List WorkValue). AreJudged c.args.board.now.problem c.args.board.now.state c.args.steps
+    subst (λ (found : List WorkValue). AreHandedIn c.args.board.now.problem c.args.board.now.state c.args.steps
     c.args.until found at.works.items) all (all_judged c.args.board.now.problem at.board.problem
     c.args.board.now.state at.board.state c.args.steps at.left c.args.until at.yielded _ at.works.items
     at.invariant.so_far)

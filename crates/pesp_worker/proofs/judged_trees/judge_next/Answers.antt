@@ -1,5 +1,5 @@
 use Rattle.std.proofs.Common.{refl, subst, arith}
-use Rattle.pesp_works.specs.Works.{WorkValue}
+use Rattle.pesp_cert_items.specs.Works.{WorkValue}
 use Rattle.pesp_worker.specs.Holding.{KeepsOthers}
 use Rattle.pesp_worker.specs.HandingIn.{IsJudged}
 use Rattle.pesp_worker.proofs.Judgments.{whole_fewer}

@@ -1,7 +1,7 @@
 use Rattle.std.proofs.Common.{ℕ, refl, sym, ap, subst, ◌∙◌, inl, arith}
 use Rattle.std.specs.Prelude.{Option, IfSome}
 use Rattle.pesp_truth.specs.Certificates.{cost_of}
-use Rattle.pesp_machine.specs.Events.{IsCheaper}
+use Rattle.pesp_tree.specs.Events.{IsCheaper}
 use Rattle.pesp_worker.specs.HandingIn.{AreTimesFor, AreShort}
 use Rattle.pesp_worker.proofs.Fitting.{times_for}
 use Rattle.pesp_worker.proofs.shared_search.shown.Goals as goal

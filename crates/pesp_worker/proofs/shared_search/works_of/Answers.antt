@@ -2,7 +2,7 @@ use Rattle.std.proofs.Common.{◌≡◌, ◌⊎◌, [], inl, ℕ, List, get_or, 
 use Rattle.std.specs.Prelude.{ℤ}
 use Rattle.std.specs.Global.{Vec}
 use Rattle.std.specs.List.{AllZip}
-use Rattle.pesp_works.specs.Works.{WorkValue}
+use Rattle.pesp_cert_items.specs.Works.{WorkValue}
 use Rattle.pesp_worker.proofs.Zips.{zip_more}
 use Rattle.pesp_worker.proofs.Works.{HasShown}
 use Rattle.pesp_worker.proofs.shared_search.works_of.Goals as goal

@@ -1,11 +1,12 @@
 use Rattle.std.proofs.Common.{◌≡◌, List, map, subst, sym, ap, ◌∙◌}
 use Rattle.std.specs.Prelude.{Ok}
 use Rattle.pesp_truth.specs.declared.tree.TreeLine.{TreeLine}
-use Rattle.pesp_truth.specs.Certificates.{Content, line_of}
+use Rattle.pesp_truth.specs.Certificates.{Content}
+use Rattle.pesp_truth.specs.Trees.{line_of}
 use Rattle.pesp_cert.proofs.Runs.{limits_give}
-use Rattle.pesp_machine.specs.States.{State}
-use Rattle.pesp_machine.specs.Certificates.{version_of, IsCertificateOf}
-use Rattle.pesp_machine.proofs.Certified.{kept_is_valid}
+use Rattle.pesp_tree.specs.States.{State}
+use Rattle.pesp_tree.specs.Certificates.{version_of, IsCertificateOf}
+use Rattle.pesp_tree.proofs.Certified.{kept_is_valid}
 use Rattle.pesp_board.specs.Insides.{times_of, state_of}
 use Rattle.pesp_board.proofs.Certified.{says, keeps_limits, not_refused, what_is_made}
 use Rattle.pesp_board.proofs.board.Board.certificate.Goals.{After-new-certificate}

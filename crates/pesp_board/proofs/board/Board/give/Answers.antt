@@ -1,4 +1,4 @@
-use Rattle.pesp_machine.specs.declared.refusal.GiveRefusal.TheVariants.{Memory}
+use Rattle.pesp_tree.specs.declared.refusal.GiveRefusal.TheVariants.{Memory}
 use Rattle.pesp_board.specs.Insides.{times_of}
 use Rattle.pesp_board.proofs.Giving.{lent_is, workable, is_lent_parked, none_beyond, parts_shape, lines_fit, not_made, no_memory, told_as, same_board, given, given_board}
 use Rattle.pesp_board.proofs.board.Board.give.Goals as goal

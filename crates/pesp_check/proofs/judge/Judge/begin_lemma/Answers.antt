@@ -1,9 +1,9 @@
 use Rattle.std.proofs.Common.{rules, ◌≡◌, ◌+◌, ◌∙◌, refl, ap, subst, List}
 use Rattle.pesp_problem.specs.declared.pair.Pair.{Pair}
 use Rattle.pesp_problem.specs.Arcs.{arcs_of}
-use Rattle.pesp_lemma.specs.Lemmas.{NamesRows}
-use Rattle.pesp_cert_items.specs.Lent.{pairs_in}
-use Rattle.pesp_lemma_judges.specs.Showing.{kept as kept_lemma, rows_kept}
+use Rattle.pesp_truth.specs.Lemmas.{NamesRows}
+use Rattle.pesp_cert_items.specs.Lent.{pairs_left_in}
+use Rattle.pesp_judges.specs.Showing.{kept_of_lemma as kept_lemma, rows_kept}
 use Rattle.pesp_check.specs.declared.stage.Stage.TheVariants as stages
 use Rattle.pesp_check.specs.Views.{kept}
 use Rattle.pesp_check.proofs.Lists.{no_lemma}
@@ -14,7 +14,7 @@ pub returns-then-ne-clause-judged : goal.returns-then-ne-clause-judged
 returns-then-ne-clause-judged c front c' rest before =
     let j = c.args.self.now in
     let other : j.stage ≡ stages.Front → ⊥ = search rules in
-    lemma_passed j.stage j.instance.now front c' (pairs_in c.args.pairs) rest (kept j) _ other refl refl before
+    lemma_passed j.stage j.instance.now front c' (pairs_left_in c.args.pairs) rest (kept j) _ other refl refl before
 
 pub returns-in-Err-clause-judged : goal.returns-in-Err-clause-judged
 returns-in-Err-clause-judged c front c' rest before =
@@ -23,7 +23,7 @@ returns-in-Err-clause-judged c front c' rest before =
     let none = no_lemma j.lemma c.requires.none in
     let found = rw c.in-Err.is at c.new.ensures in
     let R : List Pair → Type 0 = λ weights. NamesRows (arcs_of j.instance.now) weights → ⊥ in
-    lemma_never j.stage j.instance.now front c' (pairs_in c.args.pairs) rest (kept j) none at before c.in-Err.refusal _ none found.0
+    lemma_never j.stage j.instance.now front c' (pairs_left_in c.args.pairs) rest (kept j) none at before c.in-Err.refusal _ none found.0
     (subst R c.in_ok-fact.ensures found.1)
 
 pub returns-clause-judged : goal.returns-clause-judged
@@ -32,5 +32,5 @@ returns-clause-judged c front c' rest before =
     let at : j.stage ≡ stages.Front = search rules in
     let found = rw c.in-Ok.is at c.new.ensures in
     let R : List Pair → Type 0 = λ weights. NamesRows (arcs_of j.instance.now) weights in
-    lemma_begins j.stage j.instance.now front c' (pairs_in c.args.pairs) rest (kept j) (no_lemma j.lemma c.requires.none) at before
+    lemma_begins j.stage j.instance.now front c' (pairs_left_in c.args.pairs) rest (kept j) (no_lemma j.lemma c.requires.none) at before
     (kept_lemma c.in-Ok.lemma) _ refl (subst R c.in_ok-fact.ensures found.1) (found.2 ∙ ap (rows_kept (j.line + 1)) c.in_ok-fact.ensures)

@@ -2,9 +2,9 @@ use Rattle.std.proofs.Common.{◌≡◌, ◌∙◌, ◌++◌, ◌∷◌, [], Lis
 use Rattle.std.specs.Prelude.{All, option_map}
 use Rattle.pesp_problem.specs.Timetables.{Pesp}
 use Rattle.pesp_problem.specs.Walks.{Names}
-use Rattle.pesp_lemma.specs.Lemmas.{Lemma as Fact}
-use Rattle.pesp_cert_items.specs.Lent.{line_said}
-use Rattle.pesp_lemma_judges.specs.Showing.{KeptLemma, kept as kept_lemma}
+use Rattle.pesp_truth.specs.Lemmas.{Lemma as Fact}
+use Rattle.pesp_cert_items.specs.Lent.{item_said}
+use Rattle.pesp_judges.specs.Showing.{KeptLemma, kept_of_lemma as kept_lemma}
 use Rattle.pesp_check.specs.Items.{ends_lemma}
 use Rattle.pesp_check.specs.Judging.{Kept}
 use Rattle.pesp_check.specs.Views.{kept}
@@ -14,11 +14,11 @@ use Rattle.pesp_check.proofs.judge.Judge.end_lemma.Goals as goal
 pub returns-clause-judged : goal.returns-clause-judged
 returns-clause-judged c front c' rest has before =
     let j = c.args.self.now in
-    let ends : ends_lemma (line_said c.args.next.now) ≡ true = cc in
+    let ends : ends_lemma (item_said c.args.next.now) ≡ true = cc in
     let K : List Fact → Kept = λ facts. record (kept j) { facts = facts; lemma = None } in
     let L : Option KeptLemma → Kept = λ lemma. record (kept j) { facts = c.add_fact.new.facts.items; lemma = lemma } in
     let facts = c.in_ok-add_fact.ensures.items ∙ ap (λ (fact : Fact). j.facts.items ++ fact ∷ []) c.into_lemma.ensures.lemma in
-    ended_behind j.stage j.instance.now front c' (line_said c.args.next.now) rest (kept j) (kept_lemma c.in-Some.lemma) has
+    ended_behind j.stage j.instance.now front c' (item_said c.args.next.now) rest (kept j) (kept_lemma c.in-Some.lemma) has
     (ap (option_map kept_lemma) (sym c.take.ensures.value ∙ c.in-Some.is)) before _ ends
     (ap L (ap (option_map kept_lemma) c.take.ensures.after) ∙ ap K facts)
 

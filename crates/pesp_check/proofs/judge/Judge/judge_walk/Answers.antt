@@ -2,7 +2,7 @@ use Rattle.std.proofs.Common.{◌≡◌, ◌+◌, arith, ap, refl, sym, subst, l
 use Rattle.pesp_check.specs.Judging.{JudgedAt, is_before_tree}
 use Rattle.pesp_check.specs.Views.{kept}
 use Rattle.std.specs.Option.{is_some}
-use Rattle.pesp_nets.specs.declared.nets.NetCount.{NetCount}
+use Rattle.pesp_problem.specs.declared.nets.NetCount.{NetCount}
 use Rattle.pesp_cert_items.specs.Lent.{rows_in}
 use Rattle.pesp_check.proofs.Cycles.{walk_taken, walk_refused}
 use Rattle.pesp_check.proofs.judge.Judge.judge_walk.Goals as goal

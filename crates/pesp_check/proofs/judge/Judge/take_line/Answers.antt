@@ -18,20 +18,11 @@ returns-clause-judged c f c' rest has before =
     (rw front.instance at (cycles.judged f c' _ has (line_is_line (tree_line pairs_of c.args.said))
     (rw (sym front.instance) at at_front)))
 
-pub returns-then-is_empty-clause-judged : goal.returns-then-is_empty-clause-judged
-returns-then-is_empty-clause-judged c =
+pub returns-then-eq-clause-judged : goal.returns-then-eq-clause-judged
+returns-then-eq-clause-judged c =
     let front = c.in_ok-end_front.ensures in
     let cycles = c.in_ok-end_cycles.ensures in
     IfOk-weaker c.judge_line.result _ _ (λ done h f c' rest has before.
     let at_front = front.judged f c' _ (line_is_later (tree_line pairs_of c.args.said)) before in
     let at_tree = cycles.judged f c' _ has (line_is_line (tree_line pairs_of c.args.said)) (rw (sym front.instance) at at_front) in
     rw (cycles.instance, front.instance) at (h f c' rest has (rw (sym cycles.instance) at at_tree))) c.judge_line.ensures.judged
-
-pub returns-then-eq-clause-judged : goal.returns-then-eq-clause-judged
-returns-then-eq-clause-judged c =
-    let front = c.in_ok-end_front.ensures in
-    let cycles = c.in_ok-end_cycles.ensures in
-    IfOk-weaker c.judge_line_from.result _ _ (λ done h f c' rest has before.
-    let at_front = front.judged f c' _ (line_is_later (tree_line pairs_of c.args.said)) before in
-    let at_tree = cycles.judged f c' _ has (line_is_line (tree_line pairs_of c.args.said)) (rw (sym front.instance) at at_front) in
-    rw (cycles.instance, front.instance) at (h f c' rest has (rw (sym cycles.instance) at at_tree))) c.judge_line_from.ensures.judged

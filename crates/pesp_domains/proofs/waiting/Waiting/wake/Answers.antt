@@ -2,7 +2,7 @@ use Rattle.std.proofs.Common.{◌≡◌, ◌≢◌, ◌-◌, length, true, subst
 use Rattle.std.proofs.lemmas.Grind.{elements}
 use Rattle.pesp_domains.specs.declared.waiting.Waiting.{Waiting}
 use Rattle.pesp_problem.specs.Arcs.{tail_of, head_of}
-use Rattle.pesp_domains.specs.Waiting.{waits_at, Grows}
+use Rattle.pesp_domains.specs.Waiting.{waits_at, WaitingGrows}
 use Rattle.pesp_domains.proofs.Queueing.{grows_none, grows_more, woken_more}
 use Rattle.pesp_domains.proofs.waiting.Waiting.wake.Goals as goal
 use Rattle.pesp_domains.proofs.waiting.Waiting.wake.Goals.{then-row-but+in_ok-add, else-row-but}
@@ -12,7 +12,7 @@ returns-in_err-add-clause-grows c = grows_more c.args.self.now c.loop-row.self c
 
 pub loop-row-preserved : goal.loop-row-preserved
 loop-row-preserved c =
-    let P : Waiting → Type 0 = λ w. Grows c.loop-row.self w × (c.loop-row.row ≢ c.args.but → waits_at w (c.loop-row.row - 1) ≡ true) in
+    let P : Waiting → Type 0 = λ w. WaitingGrows c.loop-row.self w × (c.loop-row.row ≢ c.args.but → waits_at w (c.loop-row.row - 1) ≡ true) in
     let step : P c.if-row-but.self = elim c.if-row-but.branch [
       | then-row-but+in_ok-add w ↦ subst P (sym w.self-is) (w.add.ensures.grows, λ _. w.in_ok-add.ensures.waits)
       | else-row-but w ↦ subst P (sym w.self-is) (grows_none c.loop-row.self, λ ne. absurd (ne w.if-row-but.false))

@@ -1,5 +1,5 @@
 use Rattle.std.proofs.Common.{◌≡◌, length}
-use Rattle.pesp_truth.specs.Marks.{of_cycles}
+use Rattle.pesp_truth.specs.Named.{of_cycles}
 use Rattle.pesp_leaves.proofs.cycle_pairs.CyclePairsElementsPair.take_next.Given as goal
 
 abbrev pub invariant-loop-pair : goal.invariant-loop-pair

@@ -12,7 +12,7 @@ use Rattle.pesp_problem.specs.declared.cut.Side.TheVariants.{Low, High}
 use Rattle.pesp_problem.specs.Walks.{Names}
 use Rattle.pesp_problem.specs.Nodes.{Node, offset_range, part}
 use Rattle.pesp_nodes.specs.Offsets.{IsOffsetEnds}
-use Rattle.pesp_nets.specs.Ranges.{cut_offset}
+use Rattle.pesp_problem.specs.Ranges.{cut_offset}
 use Rattle.pesp_nodes.specs.Problems.{IsCutOf}
 use Rattle.pesp_nodes.proofs.node.Node.cut.Goals as goal
 

@@ -1,6 +1,6 @@
 use Rattle.std.proofs.Common.{subst, length, All}
-use Rattle.pesp_nets.specs.Nets.{AreSmallCounts}
-use Rattle.pesp_nets.proofs.Counts.{nets_small}
+use Rattle.pesp_problem.specs.Nets.{AreSmallCounts}
+use Rattle.pesp_problem.proofs.Counts.{nets_small}
 use Rattle.pesp_nodes.specs.Problems.{ProblemValue}
 use Rattle.pesp_nodes.proofs.problem.Problem.nets.Goals as goal
 

@@ -5,8 +5,8 @@ use Rattle.std.proofs.lemmas.List.Sums.{get_or-le-sum_by}
 use Rattle.pesp_problem.specs.declared.row.SignedRow.{SignedRow}
 use Rattle.pesp_network.specs.Networks.{arc_of_net}
 use Rattle.pesp_nodes.specs.Passages.{ArePassages}
-use Rattle.pesp_nets.specs.Nets.{AreNets}
-use Rattle.pesp_nets.proofs.Counts.{nets_small}
+use Rattle.pesp_problem.specs.Nets.{AreNets}
+use Rattle.pesp_problem.proofs.Counts.{nets_small}
 use Rattle.pesp_nodes.proofs.problem.Problem.new.Goals as goal
 
 pub root_bounds-requires : goal.root_bounds-requires

@@ -2,7 +2,7 @@ use Rattle.std.proofs.Common.{◌+◌, ◌≤◌, sym, subst, arith, length}
 use Rattle.std.specs.Prelude.{IsSome}
 use Rattle.pesp_tree.specs.declared.node.Branching.{Branching}
 use Rattle.pesp_tree.specs.WorkTrees.{leaf_at}
-use Rattle.pesp_tree.specs.Numbered.{AreNumbered}
+use Rattle.pesp_tree.specs.Numbered.{NodesAreNumbered}
 use Rattle.pesp_tree.proofs.Holding.{whole, few_branchings, branching_fits, split_value, split_numbered}
 use Rattle.pesp_tree.proofs.work_tree.WorkTree.split.Goals.{After-branch_off}
 use Rattle.pesp_tree.proofs.work_tree.WorkTree.split.Goals as goal
@@ -20,7 +20,7 @@ branch_off-requires-clause-place c =
 abbrev branching : After-branch_off → Branching
 branching c = record { node = c.args.node; cut = c.args.cut }
 
-numbered : (c : After-branch_off) → AreNumbered c.branch_off.new.branchings.items c.branch_off.new.nodes.items
+numbered : (c : After-branch_off) → NodesAreNumbered c.branch_off.new.branchings.items c.branch_off.new.nodes.items
 numbered c =
     let more = split_numbered c.self.inside.branchings.items c.self.inside.nodes.items
     (branching c) c.args.low c.args.high c.self.invariant.numbered

@@ -1,8 +1,0 @@
-use Rattle.pesp_lemma.proofs.Leaves.{excess_at_low, excess_at_high}
-use Rattle.pesp_lemma.proofs.laws.lemma_values_are_added_up.Goals as goal
-
-pub returns-clause-low : goal.returns-clause-low
-returns-clause-low c = excess_at_low
-
-pub returns-clause-high : goal.returns-clause-high
-returns-clause-high c = excess_at_high

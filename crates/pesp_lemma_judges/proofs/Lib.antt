@@ -1,6 +1,0 @@
-pub mod Judging
-pub mod Passing
-pub mod Judged
-pub mod Placing
-pub mod Telling
-pub mod Faults

@@ -1,4 +1,0 @@
-pub mod Adding
-pub mod Kept
-pub mod Worth
-pub mod Reaching

@@ -1,5 +1,0 @@
-use Rattle.pesp_lemma_leaves.proofs.Adding.{AreAdded}
-use Rattle.pesp_lemma_leaves.proofs.lemmas.add_weights.Given as goal
-
-abbrev pub invariant-loop-pair : goal.invariant-loop-pair
-invariant-loop-pair l = AreAdded l.weights l.fn.mult l.initial.taken l.taken l.pair-index

@@ -1,8 +1,0 @@
-use Rattle.std.specs.Prelude.{◌*ℤ◌}
-use Rattle.pesp_problem.specs.Walks.{sign}
-use Rattle.pesp_nets.specs.Marked.{base}
-use Rattle.pesp_nets.proofs.Along.{IsAdded}
-use Rattle.pesp_nets.proofs.bases.bases.Given as goal
-
-abbrev pub invariant-loop-s : goal.invariant-loop-s
-invariant-loop-s l = IsAdded 1030000 l.walk (λ s. sign s.signed *ℤ base l.arcs l.slacks s) l.s-index l.sum

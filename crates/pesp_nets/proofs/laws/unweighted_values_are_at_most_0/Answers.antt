@@ -1,5 +1,0 @@
-use Rattle.pesp_nets.proofs.Values.{value_is_no_bound}
-use Rattle.pesp_nets.proofs.laws.unweighted_values_are_at_most_0.Goals as goal
-
-pub returns : goal.returns
-returns c = value_is_no_bound

@@ -1,4 +1,0 @@
-pub mod Entries
-pub mod Queues
-pub mod Heaps
-pub mod Held

@@ -1,3 +1,0 @@
-pub mod Looking
-pub mod Resuming
-pub mod Endings

@@ -1,8 +1,0 @@
-use Rattle.pesp_search_laws.proofs.Slacks.{timetable_again, costs_no_more}
-use Rattle.pesp_search_laws.proofs.lifts.slacks_that_come_back_cost_no_more.Goals as goal
-
-pub returns-clause-timetable : goal.returns-clause-timetable
-returns-clause-timetable c = timetable_again
-
-pub returns-clause-cost : goal.returns-clause-cost
-returns-clause-cost c = costs_no_more

@@ -1,5 +1,0 @@
-use Rattle.pesp_search_laws.proofs.Sizes.{large_has_many}
-use Rattle.pesp_search_laws.proofs.turn.large_trees_have_many_pairs.Goals as goal
-
-pub returns : goal.returns
-returns c = large_has_many

@@ -1,5 +1,0 @@
-use Rattle.pesp_text.proofs.Digits.{whole_iff}
-use Rattle.pesp_text.proofs.number.whole.Goals as goal
-
-pub returns-clause-spelt : goal.returns-clause-spelt
-returns-clause-spelt c = λ z. whole_iff c.args.word.now c.signed_value.result z c.signed_value.ensures

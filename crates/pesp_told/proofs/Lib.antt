@@ -1,3 +1,0 @@
-mod Lesser
-mod Retelling
-mod Branching

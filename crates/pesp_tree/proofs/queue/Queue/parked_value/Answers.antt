@@ -1,0 +1,32 @@
+use Rattle.std.proofs.Common.{◌≡◌, ◌<◌, length, sym, ap, subst, arith}
+use Rattle.std.proofs.lemmas.Grind.{common_steps}
+use Rattle.std.specs.List.{Contains}
+use Rattle.pesp_tree.specs.Entries.{entry, item_at, HasItem}
+use Rattle.pesp_tree.proofs.Placing.{contained_behind, not_behind}
+use Rattle.pesp_tree.proofs.queue.Queue.parked_value.Goals as goal
+
+pub returns-clause-value : goal.returns-clause-value
+returns-clause-value c =
+    let h = c.in_ok-at.ensures in
+    let v = c.self.view_is in
+    let t = c.if-at-self.false in
+    let xs = c.self.inside.entries.items in
+    let d = c.deref.ensures.value in
+    let within : c.in_ok-at.at < length xs = subst (λ l. c.in_ok-at.at < length l) d h.0 in
+    let named : item_at xs c.in_ok-at.at ≡ c.args.item = subst (λ l. item_at l c.in_ok-at.at ≡ c.args.item) d h.1 in
+    subst (λ l. Contains l (entry c.args.item c.index.result.now.value)) (ap (λ q. q.parked) v)
+    (contained_behind xs c.self.inside.waiting c.in_ok-at.at c.args.item c.index.result.now t within named c.index.ensures)
+
+pub returns-then-at-self-clause-value : goal.returns-then-at-self-clause-value
+returns-then-at-self-clause-value c = λ has.
+    let xs = c.self.inside.entries.items in
+    let item = c.args.item in
+    let at = c.in_ok-at.at in
+    let h = c.in_ok-at.ensures in
+    let d = c.deref.ensures.value in
+    not_behind xs c.self.inside.places.items c.self.invariant.placed c.self.inside.waiting at item
+    c.if-at-self.true (subst (λ l. at < length l) d h.0) (subst (λ l. item_at l at ≡ item) d h.1)
+    (subst (λ l. HasItem l item) (sym (ap (λ q. q.parked) c.self.view_is)) has)
+
+pub returns-in_err-at-clause-value : goal.returns-in_err-at-clause-value
+returns-in_err-at-clause-value c = grind (arith, common_steps)

@@ -1,5 +1,0 @@
-use Rattle.pesp_works.proofs.LimitLaws.{work_limits_iff}
-use Rattle.pesp_works.proofs.laws.limits_are_those_of_texts.Goals as goal
-
-pub returns : goal.returns
-returns c = work_limits_iff

@@ -298,11 +298,8 @@ impl<'a> Judge<'a> {
             least,
         );
         let checker = Checker::new(self.instance, &self.table, claim);
-        let taken = &mut self.room.taken;
         let rates = &mut self.room.rates;
-        let found = take_line(
-            alloc, &checker, walk, said, self.line, working, taken, rates,
-        )?;
+        let found = take_line(alloc, &checker, walk, said, self.line, working, rates)?;
         if let Some(refusal) = found {
             self.stage = Stage::Refused(refusal);
             return Ok(());
@@ -449,7 +446,7 @@ impl<'a> Judge<'a> {
                 return Ok(());
             }
         };
-        self.lemma = Some(lemma);
+        drop(self.lemma.replace(lemma));
         Ok(())
     }
 
@@ -481,7 +478,7 @@ impl<'a> Judge<'a> {
         };
         let found = show_line(alloc, lemma, &self.facts, line, self.line, working)?;
         if let Some(refusal) = found {
-            self.lemma = None;
+            drop(self.lemma.take());
             self.stage = Stage::Refused(refusal);
             return Ok(());
         }

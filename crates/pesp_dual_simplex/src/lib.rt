@@ -20,6 +20,7 @@ mod saving;
 mod simplex;
 mod solving;
 mod sparse;
+mod standings;
 mod state;
 mod tableau;
 mod updates;

@@ -16,8 +16,10 @@ fn key_of(row: &NetRow, slack: i64) -> i64 {
 /// The keys of all rows.
 fn keys_of(alloc: Global, frame: &Frame, slacks: &[i64]) -> Result<Vec<i64>, AllocError> {
     let mut keys = Vec::with_capacity(alloc, slacks.len())?;
-    for (row, slack) in frame.rows().iter().zip(slacks.iter()) {
-        keys.push(key_of(row, *slack))?;
+    for (place, row) in frame.rows().iter().enumerate() {
+        if let Some(slack) = slacks.get(place) {
+            keys.push(key_of(row, *slack))?;
+        }
     }
     Ok(keys)
 }
@@ -72,5 +74,7 @@ pub(crate) fn times_near(
     let Some(forest) = RowForest::new(alloc, frame, &numbers)? else {
         return Ok(None);
     };
-    Ok(Some(times_along(alloc, frame, &forest, slacks)?))
+    let times = times_along(alloc, frame, &forest, slacks);
+    drop(forest);
+    Ok(Some(times?))
 }

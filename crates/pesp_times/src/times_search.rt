@@ -43,34 +43,34 @@ impl TimesFinder for TimesSearch {
 
     fn set_effort(&mut self, effort: Effort) {
         if let Some(looking) = &mut self.looking {
-            looking.set_effort(effort);
+            looking.search.set_effort(effort);
         }
     }
 
     fn begin(&mut self) -> Result<(), Memory> {
         match &mut self.looking {
-            Some(looking) => looking.begin(),
+            Some(looking) => looking.search.begin(&looking.ordered.network),
             None => Ok(()),
         }
     }
 
     fn owes_first(&self) -> bool {
         match &self.looking {
-            Some(looking) => looking.owes_first(),
+            Some(looking) => looking.search.owes_first(),
             None => false,
         }
     }
 
     fn end_first(&mut self) -> Result<(), Memory> {
         match &mut self.looking {
-            Some(looking) => looking.end_first(),
+            Some(looking) => looking.search.end_first(&looking.ordered.network),
             None => Ok(()),
         }
     }
 
     fn go_on(&mut self, steps: u32) -> Result<(), Memory> {
         match &mut self.looking {
-            Some(looking) => looking.go_on(steps),
+            Some(looking) => looking.search.go_on(&looking.ordered.network, steps),
             None => Ok(()),
         }
     }
@@ -91,21 +91,21 @@ impl TimesFinder for TimesSearch {
 
     fn work(&self) -> u64 {
         match &self.looking {
-            Some(looking) => looking.work(),
+            Some(looking) => looking.search.work(),
             None => 0,
         }
     }
 
     fn is_annealing(&self) -> bool {
         match &self.looking {
-            Some(looking) => looking.is_annealing(),
+            Some(looking) => looking.search.is_annealing(),
             None => false,
         }
     }
 
     fn make_piece(&mut self) -> Result<(), Memory> {
         match &mut self.looking {
-            Some(looking) => looking.make_piece(),
+            Some(looking) => looking.search.make_piece(&looking.ordered.network),
             None => Ok(()),
         }
     }

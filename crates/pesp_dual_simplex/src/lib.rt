@@ -20,7 +20,6 @@ mod saving;
 mod simplex;
 mod solving;
 mod sparse;
-mod standings;
 mod state;
 mod tableau;
 mod updates;

@@ -1,6 +1,6 @@
 //! The columns and the lines of a program.
 
-use crate::fixed::{MOST, norm_of, parts, times, whole};
+use crate::fixed::{MOST, norm_of, parts, whole};
 use pesp_dual::Term;
 use pesp_network::NetRow;
 use std::alloc::{AllocError, Global};
@@ -41,61 +41,6 @@ impl Column {
     }
 }
 
-/// What the slack at a place costs.
-pub(crate) fn cost_at(columns: &[Column], place: usize) -> i64 {
-    match columns.get(place) {
-        Some(column) => column.cost,
-        None => 0,
-    }
-}
-
-/// How great the slack at a place is at most.
-pub(crate) fn span_at(columns: &[Column], place: usize) -> i64 {
-    match columns.get(place) {
-        Some(column) => column.span,
-        None => 0,
-    }
-}
-
-/// How far the ends of a line are from each other; 0 where there is no such line.
-pub(crate) fn range_at(lines: &[Constraint], number: u32) -> i64 {
-    match lines.get(number as usize) {
-        Some(line) => line.range(),
-        None => 0,
-    }
-}
-
-/// The columns have no coefficients.
-fn clear_entries(columns: &mut [Column]) {
-    for column in columns.iter_mut() {
-        column.entries.clear();
-    }
-}
-
-/// Puts the coefficients of a line in their columns.
-pub(crate) fn enter(columns: &mut [Column], number: u32, terms: &[Term]) -> Result<(), AllocError> {
-    for term in terms {
-        if let Some(column) = columns.get_mut(term.row as usize) {
-            column.entries.push(Coefficient {
-                line: number,
-                coefficient: term.coefficient,
-            })?;
-        }
-    }
-    Ok(())
-}
-
-/// Puts the coefficients of all lines in their columns, and no others.
-pub(crate) fn enter_all(columns: &mut [Column], lines: &[Constraint]) -> Result<(), AllocError> {
-    clear_entries(columns);
-    let mut number = 0u32;
-    for line in lines {
-        enter(columns, number, &line.terms)?;
-        number = number.wrapping_add(1);
-    }
-    Ok(())
-}
-
 /// The sum of squares of coefficients.
 fn squares_of(terms: &[Term]) -> u64 {
     let mut sum = 0u64;
@@ -125,17 +70,6 @@ impl Constraint {
     /// How far its ends are from each other; at least `MOST` where it has one.
     pub(crate) fn range(&self) -> i64 {
         self.most.saturating_sub(self.least)
-    }
-
-    /// What a multiplier of it shows; 0 where that has the wrong sign.
-    pub(crate) fn worth(&self, multiplier: i64) -> i64 {
-        if multiplier > 0 {
-            times(multiplier, self.least)
-        } else if multiplier < 0 && self.has_most() {
-            times(multiplier, self.most)
-        } else {
-            0
-        }
     }
 
     /// Whether its sum has a greatest value.

@@ -3,7 +3,7 @@
 use crate::fixed::over;
 
 /// A slack, or a line, by its number from 0.
-#[derive(Clone, Copy)]
+#[derive(Clone, Copy, PartialEq, Eq)]
 pub(crate) enum Member {
     Slack(u32),
     Line(u32),

@@ -1,7 +1,7 @@
 //! Bases by names.
 
 use crate::simplex::Simplex;
-use crate::state::{State, VACANT};
+use crate::state::VACANT;
 use std::alloc::{AllocError, Global};
 
 /// A basis: the basic slacks, the tight lines, each with whether it is at its greatest value, and the slacks at their span.
@@ -23,12 +23,11 @@ impl BasisNames {
     }
 }
 
-impl State {
+impl Simplex {
     /// The slacks that aren't basic and stand at their span.
     fn list_up(&self, up: &mut Vec<u32>) -> Result<(), AllocError> {
-        up.clear();
         let mut number = 0u32;
-        for slack in &self.slacks {
+        for slack in &self.state.slacks {
             if slack.is_up && slack.place.is_none() {
                 up.push(number)?;
             }
@@ -40,7 +39,7 @@ impl State {
     /// The slacks that are basic.
     fn list_basic(&self, basic: &mut Vec<u32>) -> Result<(), AllocError> {
         basic.clear();
-        for number in &self.basic {
+        for number in &self.state.basic {
             if *number != VACANT {
                 basic.push(*number)?;
             }
@@ -48,54 +47,50 @@ impl State {
         Ok(())
     }
 
-    /// The lines that are tight, each with whether it is at its greatest value.
-    fn list_tight(&self, tight: &mut Vec<(u32, bool)>) -> Result<(), AllocError> {
-        tight.clear();
-        for number in &self.tight {
-            if let Some(sum) = self.sums.get(*number as usize) {
-                tight.push((*number, sum.is_up))?;
+    /// Writes down the basis.
+    pub fn name(&self, names: &mut BasisNames) -> Result<(), AllocError> {
+        self.list_basic(&mut names.basic)?;
+        names.tight.clear();
+        for number in &self.state.tight {
+            if let Some(sum) = self.state.sums.get(*number as usize) {
+                names.tight.push((*number, sum.is_up))?;
             }
         }
-        Ok(())
+        names.up.clear();
+        self.list_up(&mut names.up)
     }
 
-    /// The slacks that are named stand at their span, and no others.
-    fn set_up(&mut self, up: &[u32]) {
-        self.clear_up();
-        for number in up {
-            if let Some(slack) = self.slacks.get_mut(*number as usize) {
+    /// No slack stands at its span.
+    fn clear_up(&mut self) {
+        for slack in self.state.slacks.iter_mut() {
+            slack.is_up = false;
+        }
+    }
+
+    /// Sets at which ends slacks and lines stand.
+    fn set_named_ends(&mut self, names: &BasisNames) {
+        for number in &names.up {
+            if let Some(slack) = self.state.slacks.get_mut(*number as usize) {
                 slack.is_up = true;
             }
         }
-    }
-
-    /// The lines that are named are tight, at these ends.
-    fn set_tight(&mut self, tight: &[(u32, bool)]) -> Result<(), AllocError> {
-        self.tight.clear();
-        for (number, is_up) in tight {
-            self.tight.push(*number)?;
-            if let Some(sum) = self.sums.get_mut(*number as usize) {
+        for (number, is_up) in &names.tight {
+            if let Some(sum) = self.state.sums.get_mut(*number as usize) {
                 sum.is_up = *is_up;
             }
         }
-        Ok(())
-    }
-}
-
-impl Simplex {
-    /// Writes down the basis.
-    pub fn name(&self, names: &mut BasisNames) -> Result<(), AllocError> {
-        self.state.list_basic(&mut names.basic)?;
-        self.state.list_tight(&mut names.tight)?;
-        self.state.list_up(&mut names.up)
     }
 
     /// Goes to a basis that is named.
     pub fn take_names(&mut self, names: &BasisNames) -> Result<(), AllocError> {
         self.state.basic.clear();
         self.state.basic.extend_from_slice(&names.basic)?;
-        self.state.set_up(&names.up);
-        self.state.set_tight(&names.tight)?;
+        self.state.tight.clear();
+        for (number, _) in &names.tight {
+            self.state.tight.push(*number)?;
+        }
+        self.clear_up();
+        self.set_named_ends(names);
         self.rebuild()
     }
 }

@@ -232,21 +232,11 @@ impl Order {
         }
         let waits = &self.waits;
         self.waiting.retain(|number| is_marked(waits, *number));
-        self.fewest()
-    }
-
-    /// The first of the waiting lines of the fewest open slacks.
-    fn fewest(&self) -> Option<u32> {
-        let mut found = None;
-        let mut fewest = u32::MAX;
-        for number in &self.waiting {
-            let count = count_at(&self.slacks_of, *number);
-            if found.is_none() || count < fewest {
-                found = Some(*number);
-                fewest = count;
-            }
-        }
-        found
+        let slacks_of = &self.slacks_of;
+        self.waiting
+            .iter()
+            .copied()
+            .min_by_key(|number| count_at(slacks_of, *number))
     }
 
     /// Whether a slack is still to come in.

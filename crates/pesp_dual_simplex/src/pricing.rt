@@ -1,9 +1,8 @@
 //! Which slack or line leaves.
 
 use crate::fixed::{amount, times};
-use crate::lines::{Column, Constraint, span_at};
 use crate::members::{Leaving, Member};
-use crate::state::State;
+use crate::simplex::Simplex;
 
 /// By how much a slack may be outside its range.
 const SLACK_OFF: i64 = 1 << 16;
@@ -45,20 +44,19 @@ fn better(
     }
 }
 
-impl State {
+impl Simplex {
     /// By how much a slack has to rise.
-    fn slack_missing(&self, columns: &[Column], number: u32) -> i64 {
-        match self.slacks.get(number as usize) {
-            Some(slack) => missing(slack.value, 0, span_at(columns, number as usize)),
-            None => 0,
-        }
+    fn slack_missing(&self, number: u32) -> Option<i64> {
+        let value = self.state.slacks.get(number as usize)?.value;
+        let span = self.columns.get(number as usize)?.span;
+        Some(missing(value, 0, span))
     }
 
     /// The basic slack that is furthest outside its range.
-    fn worst_slack(&self, columns: &[Column]) -> Option<LeavingCandidate> {
+    fn worst_slack(&self) -> Option<LeavingCandidate> {
         let mut found = None;
-        for number in &self.basic {
-            let missing = self.slack_missing(columns, *number);
+        for number in &self.state.basic {
+            let missing = self.slack_missing(*number).unwrap_or(0);
             let score = amount(missing);
             if score > SLACK_OFF {
                 found = better(found, Member::Slack(*number), missing, score);
@@ -68,10 +66,10 @@ impl State {
     }
 
     /// That slack, or a line that is further outside its range by its norm.
-    pub(crate) fn leaving(&self, columns: &[Column], lines: &[Constraint]) -> Option<Leaving> {
-        let mut found = self.worst_slack(columns);
+    pub(crate) fn leaving(&self) -> Option<Leaving> {
+        let mut found = self.worst_slack();
         let mut number = 0u32;
-        for (line, sum) in lines.iter().zip(self.sums.iter()) {
+        for (line, sum) in self.lines.iter().zip(self.state.sums.iter()) {
             let missing = missing(sum.value, line.least, line.most);
             if sum.place.is_none() && amount(missing) > SUM_OFF {
                 let score = times(amount(missing), line.norm);

@@ -43,7 +43,7 @@ impl Simplex {
 
     /// Makes an exchange, where something is outside its range and something may enter.
     fn turn(&mut self) -> Result<SolveTurn, AllocError> {
-        let Some(leaving) = self.state.leaving(&self.columns, &self.lines) else {
+        let Some(leaving) = self.leaving() else {
             return Ok(SolveTurn::Best);
         };
         self.weigh(leaving.member)?;
@@ -79,7 +79,7 @@ impl Simplex {
         if self.state.value < stop {
             return false;
         }
-        self.state.value = self.state.value_shown(&self.columns, &self.lines);
+        self.state.value = self.value_shown();
         self.state.value >= stop
     }
 

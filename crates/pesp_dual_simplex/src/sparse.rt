@@ -1,8 +1,6 @@
 //! Lists of numbers of which few are not 0.
 
-use crate::fixed::{by_whole, is_nothing, times};
-use crate::state::Standing;
-use pesp_dual::Term;
+use crate::state::Slack;
 use std::alloc::{AllocError, Global};
 
 /// Numbers by place, 0 but at the places that are listed.
@@ -14,19 +12,13 @@ pub(crate) struct Sparse {
 }
 
 impl Sparse {
-    /// No numbers.
-    pub(crate) fn new(alloc: Global) -> Sparse {
-        Sparse {
-            values: Vec::new(alloc),
-            is_listed: Vec::new(alloc),
+    /// So many numbers that are 0.
+    pub(crate) fn new(alloc: Global, count: usize) -> Result<Sparse, AllocError> {
+        Ok(Sparse {
+            values: vec![in alloc; 0i64; count]?,
+            is_listed: vec![in alloc; false; count]?,
             places: Vec::new(alloc),
-        }
-    }
-
-    /// Makes numbers so many; those that are new are 0.
-    pub(crate) fn make_room(&mut self, count: usize) -> Result<(), AllocError> {
-        self.values.resize(count, 0)?;
-        self.is_listed.resize(count, false)
+        })
     }
 
     /// Adds to a number.
@@ -44,30 +36,6 @@ impl Sparse {
         Ok(())
     }
 
-    /// Adds a step times factors to the numbers at places.
-    pub(crate) fn add_times(
-        &mut self,
-        places: &[u32],
-        factors: &[i64],
-        step: i64,
-    ) -> Result<(), AllocError> {
-        for (place, factor) in places.iter().zip(factors.iter()) {
-            let part = times(step, *factor);
-            if !is_nothing(part) {
-                self.add(*place, part)?;
-            }
-        }
-        Ok(())
-    }
-
-    /// Takes a line times a weight away from numbers that are listed later.
-    pub(crate) fn take(&mut self, terms: &[Term], weight: i64) {
-        for term in terms {
-            let part = by_whole(weight, term.coefficient);
-            self.gather(term.row, part.wrapping_neg());
-        }
-    }
-
     /// Adds to a number that is listed later.
     pub(crate) fn gather(&mut self, place: u32, number: i64) {
         if let Some(value) = self.values.get_mut(place as usize) {
@@ -76,7 +44,7 @@ impl Sparse {
     }
 
     /// Lists the numbers of slacks that aren't basic; the others become 0.
-    pub(crate) fn list(&mut self, slacks: &[Standing]) -> Result<(), AllocError> {
+    pub(crate) fn list(&mut self, slacks: &[Slack]) -> Result<(), AllocError> {
         self.places.clear();
         let mut place = 0u32;
         for (value, slack) in self.values.iter_mut().zip(slacks.iter()) {

@@ -4,12 +4,20 @@ use crate::members::Member;
 use crate::updates::Update;
 use std::alloc::{AllocError, Global};
 
-/// Where a slack or a line stands: its value, which is a line's sum; its price, which is a slack's reduced cost or a line's
-/// multiplier; its place among the basic slacks or the tight lines; and where it is at an end, whether that is the greater one.
+/// A slack: its value, its reduced cost, its place among the basic ones, and otherwise whether it is at its span.
 #[derive(Clone, Copy)]
-pub(crate) struct Standing {
+pub(crate) struct Slack {
     pub(crate) value: i64,
-    pub(crate) price: i64,
+    pub(crate) reduced: i64,
+    pub(crate) place: Option<u32>,
+    pub(crate) is_up: bool,
+}
+
+/// A line: its sum, its multiplier, its place among the tight ones, and then whether it is at its greatest value.
+#[derive(Clone, Copy)]
+pub(crate) struct Sum {
+    pub(crate) value: i64,
+    pub(crate) multiplier: i64,
     pub(crate) place: Option<u32>,
     pub(crate) is_up: bool,
 }
@@ -24,8 +32,8 @@ pub(crate) const VACANT: u32 = u32::MAX;
 pub struct State {
     pub(crate) basic: Vec<u32>,
     pub(crate) tight: Vec<u32>,
-    pub(crate) slacks: Vec<Standing>,
-    pub(crate) sums: Vec<Standing>,
+    pub(crate) slacks: Vec<Slack>,
+    pub(crate) sums: Vec<Sum>,
     pub(crate) value: i64,
     pub(crate) since: u32,
     pub(crate) inverse: u64,
@@ -33,36 +41,13 @@ pub struct State {
     pub(crate) updates: Vec<Update>,
 }
 
-/// A price that counts as 0.
-const NO_PRICE: i64 = 64;
-
-impl Standing {
-    /// At its lesser end, without a place.
-    pub(crate) fn at(value: i64, price: i64) -> Standing {
-        Standing {
-            value,
-            price,
-            place: None,
-            is_up: false,
-        }
-    }
-
-    /// Is at the end that its price wants; at the lesser one where it has no greater one.
-    pub(crate) fn choose_end(&mut self, has_greater: bool) {
-        if !has_greater || self.price > NO_PRICE {
-            self.is_up = false;
-        } else if self.price < -NO_PRICE {
-            self.is_up = true;
-        }
-    }
-}
-
-/// A place is vacant.
-fn vacate_at(numbers: &mut [u32], place: u32) {
-    if let Some(slot) = numbers.get_mut(place as usize) {
-        *slot = VACANT;
-    }
-}
+/// A slack at 0.
+pub(crate) const NO_SLACK: Slack = Slack {
+    value: 0,
+    reduced: 0,
+    place: None,
+    is_up: false,
+};
 
 impl State {
     /// Where nothing is.
@@ -96,32 +81,21 @@ impl State {
         Ok(())
     }
 
-    /// Where a slack or a line stands.
-    pub(crate) fn standing(&self, member: Member) -> Option<Standing> {
-        match member {
-            Member::Slack(number) => self.slacks.get(number as usize).copied(),
-            Member::Line(number) => self.sums.get(number as usize).copied(),
-        }
-    }
-
-    /// The same, to be changed.
-    fn standing_mut(&mut self, member: Member) -> Option<&mut Standing> {
-        match member {
-            Member::Slack(number) => self.slacks.get_mut(number as usize),
-            Member::Line(number) => self.sums.get_mut(number as usize),
-        }
-    }
-
     /// The place of a slack among the basic ones, or of a line among the tight ones.
     pub(crate) fn place_of(&self, member: Member) -> Option<u32> {
-        self.standing(member)?.place
+        match member {
+            Member::Slack(number) => self.slacks.get(number as usize)?.place,
+            Member::Line(number) => self.sums.get(number as usize)?.place,
+        }
     }
 
     /// Sets the place of a slack, or of a line.
-    pub(crate) fn set_place(&mut self, member: Member, place: Option<u32>) {
-        if let Some(standing) = self.standing_mut(member) {
-            standing.place = place;
+    pub(crate) fn set_place(&mut self, member: Member, place: Option<u32>) -> Option<()> {
+        match member {
+            Member::Slack(number) => self.slacks.get_mut(number as usize)?.place = place,
+            Member::Line(number) => self.sums.get_mut(number as usize)?.place = place,
         }
+        Some(())
     }
 
     /// A slack is basic, at a new place.
@@ -141,93 +115,40 @@ impl State {
     }
 
     /// The place of a slack or of a line is vacant.
-    pub(crate) fn vacate(&mut self, member: Member) {
-        let Some(place) = self.place_of(member) else {
-            return;
-        };
+    pub(crate) fn vacate(&mut self, member: Member) -> Option<()> {
+        let place = self.place_of(member)?;
         self.set_place(member, None);
         match member {
-            Member::Slack(_) => vacate_at(&mut self.basic, place),
-            Member::Line(_) => vacate_at(&mut self.tight, place),
+            Member::Slack(_) => *self.basic.get_mut(place as usize)? = VACANT,
+            Member::Line(_) => *self.tight.get_mut(place as usize)? = VACANT,
         }
-    }
-
-    /// Nothing has a place.
-    pub(crate) fn clear_places(&mut self) {
-        for slack in self.slacks.iter_mut() {
-            slack.place = None;
-        }
-        for sum in self.sums.iter_mut() {
-            sum.place = None;
-        }
-    }
-
-    /// No slack stands at its span.
-    pub(crate) fn clear_up(&mut self) {
-        for slack in self.slacks.iter_mut() {
-            slack.is_up = false;
-        }
-    }
-
-    /// Slacks that should be basic and aren't stay at 0.
-    pub(crate) fn lower(&mut self, basic: &[u32]) {
-        for number in basic {
-            if let Some(slack) = self.slacks.get_mut(*number as usize)
-                && slack.place.is_none()
-            {
-                slack.is_up = false;
-            }
-        }
-    }
-
-    /// Whether a slack or a line is at its greater end.
-    pub(crate) fn is_up(&self, member: Member) -> bool {
-        match self.standing(member) {
-            Some(standing) => standing.is_up,
-            None => false,
-        }
+        Some(())
     }
 
     /// Sets at which end a slack or a line is.
-    pub(crate) fn set_end(&mut self, member: Member, is_up: bool) {
-        if let Some(standing) = self.standing_mut(member) {
-            standing.is_up = is_up;
+    pub(crate) fn set_end(&mut self, member: Member, is_up: bool) -> Option<()> {
+        match member {
+            Member::Slack(number) => self.slacks.get_mut(number as usize)?.is_up = is_up,
+            Member::Line(number) => self.sums.get_mut(number as usize)?.is_up = is_up,
         }
+        Some(())
+    }
+
+    /// The reduced cost of a slack, or the multiplier of a line.
+    pub(crate) fn price(&self, member: Member) -> i64 {
+        let price = match member {
+            Member::Slack(number) => self.slacks.get(number as usize).map(|it| it.reduced),
+            Member::Line(number) => self.sums.get(number as usize).map(|it| it.multiplier),
+        };
+        price.unwrap_or(0)
     }
 
     /// Sets the reduced cost of a slack, or the multiplier of a line.
-    pub(crate) fn set_price(&mut self, member: Member, price: i64) {
-        if let Some(standing) = self.standing_mut(member) {
-            standing.price = price;
+    pub(crate) fn set_price(&mut self, member: Member, price: i64) -> Option<()> {
+        match member {
+            Member::Slack(number) => self.slacks.get_mut(number as usize)?.reduced = price,
+            Member::Line(number) => self.sums.get_mut(number as usize)?.multiplier = price,
         }
-    }
-
-    /// The new numbers of the lines that are marked or tight.
-    pub(crate) fn numbers_kept(
-        &self,
-        alloc: Global,
-        marks: &[bool],
-    ) -> Result<Vec<Option<u32>>, AllocError> {
-        let mut numbers = Vec::with_capacity(alloc, self.sums.len())?;
-        let mut next = 0u32;
-        for (place, sum) in self.sums.iter().enumerate() {
-            let is_marked = marks.get(place).copied().unwrap_or(true);
-            if is_marked || sum.place.is_some() {
-                numbers.push(Some(next))?;
-                next = next.wrapping_add(1);
-            } else {
-                numbers.push(None)?;
-            }
-        }
-        Ok(numbers)
-    }
-
-    /// Gives the tight lines their new numbers.
-    pub(crate) fn rename(&mut self, numbers: &[Option<u32>]) {
-        for tight in self.tight.iter_mut() {
-            if let Some(Some(number)) = numbers.get(*tight as usize).copied() {
-                *tight = number;
-            }
-        }
+        Some(())
     }
 }

@@ -57,14 +57,25 @@ impl Simplex {
         self.work = self.work.wrapping_add(work);
     }
 
+    /// Takes a tight line times a weight away from slacks.
+    fn take_line(&mut self, number: u32, weight: i64) {
+        let Some(line) = self.lines.get(number as usize) else {
+            return;
+        };
+        for term in &line.terms {
+            let part = by_whole(weight, term.coefficient);
+            self.alpha.gather(term.row, part.wrapping_neg());
+        }
+        self.work = self.work.wrapping_add(line.terms.len() as u64);
+    }
+
     /// Takes all tight lines with their weights away.
     fn take_lines(&mut self) {
-        for (place, weight) in &self.listed {
-            if let Some(number) = self.state.tight.get(*place as usize)
-                && let Some(line) = self.lines.get(*number as usize)
+        for at in 0..self.listed.len() {
+            if let Some((place, weight)) = self.listed.get(at).copied()
+                && let Some(number) = self.state.tight.get(place as usize).copied()
             {
-                self.alpha.take(&line.terms, *weight);
-                self.work = self.work.wrapping_add(line.terms.len() as u64);
+                self.take_line(number, weight);
             }
         }
     }

@@ -21,8 +21,8 @@ use crate::gains::add_walks;
 use crate::leaf::{leaf_value, offset_sum};
 use crate::lemmas::add_lemmas;
 use crate::ranges::Ranges;
-use crate::terms::{lower_sum, rows_sum};
-use pesp_problem::exact::{minus, plus};
+use crate::terms::rows_sum;
+use pesp_problem::exact::plus;
 use pesp_problem::{Pair, Rates, clear};
 
 /// The value by its scale of a leaf that may name cycles, marked walks and lemmas, under the weights that are told; none where
@@ -35,6 +35,7 @@ fn value_behind<P: Elements<Pair>>(
     weighted: bool,
     scale: u32,
     flows: &mut [i128],
+    taken: &mut [i128],
     rates: &mut [Rates],
 ) -> Option<i128>
     requires fits { FitsShown checker.now.instance.now shown.now }
@@ -47,6 +48,7 @@ fn value_behind<P: Elements<Pair>>(
         (names_more (length checker.now.table.now) (P.elements pairs)) }
     requires most { scale ≤ 1000000 }
     requires long { length flows.old ≡ length checker.now.instance.now.rows }
+    requires much { length taken.old ≡ length checker.now.instance.now.rows }
     requires wide { length rates.old ≡ length checker.now.instance.now.rows }
     requires zeros { AreZeros flows.old }
     ensures value { (walks : List (List SignedRow)) (own : ℕ → ℤ)
@@ -68,14 +70,23 @@ fn value_behind<P: Elements<Pair>>(
         pairs: others,
     };
     let offsets = offset_sum(checker, ranges, of_cycles)?;
-    add_flows(flows, checker.table, of_cycles);
-    let lowers = lower_sum(shown.arcs, flows);
     clear(rates);
+    taken.fill(0);
     let gains = add_walks(checker, shown, &ranges.slacks, others, rates);
-    let floors = add_lemmas(cycles_and_walks, shown.facts, pairs, flows);
-    let rows = rows_sum(&ranges.slacks, shown.weights, weighted, scale, flows, rates);
+    let floors = add_lemmas(cycles_and_walks, shown.facts, pairs, taken);
+    add_flows(flows, checker.table, of_cycles);
+    let rows = rows_sum(
+        shown.arcs,
+        &ranges.slacks,
+        shown.weights,
+        weighted,
+        scale,
+        flows,
+        taken,
+        rates,
+    );
     flows.fill(0);
-    Some(plus(plus(plus(minus(offsets, lowers), gains), floors), rows))
+    Some(plus(plus(plus(offsets, gains), floors), rows))
 }
 
 /// The scale of a leaf that names more than cycles, or of one that doesn't.
@@ -111,6 +122,7 @@ fn value_shown<P: Elements<Pair>>(
     more: bool,
     weighted: bool,
     flows: &mut [i128],
+    taken: &mut [i128],
     rates: &mut [Rates],
 ) -> Option<i128>
     requires fits { FitsShown checker.now.instance.now shown.now }
@@ -121,6 +133,7 @@ fn value_shown<P: Elements<Pair>>(
     requires limits { ArePairLimits (P.elements pairs) }
     requires more { more ≡ names_more (length checker.now.table.now) (P.elements pairs) }
     requires long { length flows.old ≡ length checker.now.instance.now.rows }
+    requires much { length taken.old ≡ length checker.now.instance.now.rows }
     requires wide { length rates.old ≡ length checker.now.instance.now.rows }
     requires zeros { AreZeros flows.old }
     ensures value { (walks : List (List SignedRow)) (own : ℕ → ℤ)
@@ -135,11 +148,13 @@ fn value_shown<P: Elements<Pair>>(
         return leaf_value(checker, ranges, pairs, weighted, flows);
     }
     let scale = scale_of(&Claim::Behind(*shown), more);
-    value_behind(checker, shown, ranges, pairs, weighted, scale, flows, rates)
+    value_behind(
+        checker, shown, ranges, pairs, weighted, scale, flows, taken, rates,
+    )
 }
 
 /// The value of a leaf by its scale, with the rows' weights or without; none where a cycle of a pair has no offset left. The
-/// flows, one a row, are 0 before and after. Behind a front there are as many rates.
+/// flows, one a row, are 0 before and after. Behind a front there are as many of what lemmas take, and as many rates.
 pub fn value_of<P: Elements<Pair>>(
     checker: &Checker<'_>,
     ranges: &Ranges,
@@ -147,6 +162,7 @@ pub fn value_of<P: Elements<Pair>>(
     more: bool,
     weighted: bool,
     flows: &mut [i128],
+    taken: &mut [i128],
     rates: &mut [Rates],
 ) -> Option<i128>
     requires ranges { AreRanges checker.now.instance.now ranges.now }
@@ -155,7 +171,7 @@ pub fn value_of<P: Elements<Pair>>(
     requires limits { ArePairLimits (P.elements pairs) }
     requires more { more ≡ names_more (length checker.now.table.now) (P.elements pairs) }
     requires long { length flows.old ≡ length checker.now.instance.now.rows }
-    requires room { HasRoom checker.now.claim (length checker.now.instance.now.rows) (length rates.old) }
+    requires room { HasRoom checker.now.claim (length checker.now.instance.now.rows) (length taken.old) (length rates.old) }
     requires zeros { AreZeros flows.old }
     ensures value { (walks : List (List SignedRow)) (claim : SpecClaim)
         → AreNets (length checker.now.instance.now.rows) walks checker.now.table.now
@@ -167,7 +183,7 @@ pub fn value_of<P: Elements<Pair>>(
     match &checker.claim {
         Claim::Plain(_) => leaf_value(checker, ranges, pairs, weighted, flows),
         Claim::Behind(shown) => value_shown(
-            checker, shown, ranges, pairs, more, weighted, flows, rates,
+            checker, shown, ranges, pairs, more, weighted, flows, taken, rates,
         ),
     }
 }

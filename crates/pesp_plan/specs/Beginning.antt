@@ -7,7 +7,7 @@ use Rattle.pesp_old_times.specs.OldTimes.{entries_from_text}
 use Rattle.pesp_cert_lines.specs.declared.versions.Versions.TheVariants.{All}
 use Rattle.pesp_cert.specs.Fronted.{Fronted, IsFrontedText}
 use Rattle.pesp_cert.specs.Refusals.{items_of_text}
-use Rattle.pesp_check_run.specs.Devices.{Device, HasFailed}
+use Rattle.pesp_check_run.specs.Devices.{Device, HasFailed, GetsFront}
 use Rattle.pesp_runs.specs.Reading.{ReadsInstance, ReadsNext}
 use Rattle.pesp_runs.specs.Causes.{InstanceCause}
 use Rattle.pesp_runs.specs.declared.fault.Fault.{Fault}
@@ -38,12 +38,28 @@ RefusesOld fault p text = ⊥
 abbrev pub ReadsOld : Option (List ℕ) → Option (List ℕ) → Pesp → List ℕ → Type 0
 ReadsOld told left p times = ReadsNext told left (λ text. BeginsWith p text times)
 
+-- the first text has an instance, and the second one gives times to begin with, of which this is said
+abbrev pub FromOld : (Pesp → List ℕ → Type 0) → Option (List ℕ) → Option (List ℕ) → Option (List ℕ) → Option (List ℕ) → ℕ → Type 0
+FromOld Holds told left told_times left_times period =
+    (p : Pesp) × ReadsInstance told left period p × ((times : List ℕ) × ReadsOld told_times left_times p times × Holds p times)
+
 -- why there are no times to begin with: a `time` line of the text, or the reader's device
 abbrev pub OldCause : Fault → Device → Pesp → Type 0
 OldCause (Times refusal) reader p = ReadsNext reader.old reader.new (λ text. entries_from_text p.period text ≡ Err refusal)
 OldCause Memory reader p = Unit {0}
 OldCause Read reader p = HasFailed reader
 OldCause fault reader p = ⊥
+
+-- each fault and its cause, in the order of what is read, found and written; the second reader is called only where the first
+-- text has an instance
+abbrev pub FromOldCause : (Pesp → List ℕ → Fault → Type 0 → Type 0) → (Pesp → List ℕ → (List ℕ → Type 0) → Type 0)
+    → Fault → Device → Device → Device → ℕ → Type 0 → Type 0
+FromOldCause Stops Writes fault reader times_reader writer period uncalled =
+    (InstanceCause fault reader period × uncalled)
+    ⊎ ((p : Pesp) × ReadsInstance reader.old reader.new period p
+    × (OldCause fault times_reader p
+    ⊎ ((times : List ℕ) × ReadsOld times_reader.old times_reader.new p times
+    × Stops p times fault (HasFailed writer × Writes p times (GetsFront writer)))))
 
 -- ---- from what stands in a file
 

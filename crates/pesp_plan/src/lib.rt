@@ -1,7 +1,7 @@
 //! A plan: the best timetable and bound that are found in the time there is, written at its end, or kept where others read it while it
 //! is made.
 //!
-//! Old times that a search starts with: told in any order, of other activities, or such that violate some.
+//! Runs that begin with old times: told in any order, of other activities, or such that violate some.
 //!
 //! A file in which the certificate of a plan stands, whole at every moment.
 #![tactic(auto)]
@@ -21,7 +21,7 @@ mod refusal;
 mod shelf;
 
 pub use file_shelf::FileShelf;
-pub use from_old::FromOldTimes;
+pub use from_old::run_from_old;
 pub use kept_plan::KeptPlan;
 pub use listener::{Listener, ToldOldTimes};
 pub use lockable::Lockable;

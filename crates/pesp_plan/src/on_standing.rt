@@ -30,7 +30,7 @@ fn has_other_period(instance: &Instance, base: &Fronted) -> bool
 }
 
 /// Reads an instance and then the certificate that stands where a plan is kept, and makes the plan. It goes on from the certificate
-/// where that is valid for the instance. One of other activities gives the times to begin with, as `FromOldTimes` reads them, and a
+/// where that is valid for the instance. One of other activities gives the times to begin with, as `run_from_old` takes them, and a
 /// listener is told of it; what stood there is replaced by the first certificate that is found. `Certificate` where the text is
 /// none's, and `Base` where it has another period: then what stands there stays.
 pub fn run_on_standing<

@@ -37,7 +37,6 @@ struct Making {
     net_rows: Vec<NetRow>,
     events: Vec<u32>,
     constant: i64,
-    walks: Vec<Vec<Pass>>,
     places: Vec<Option<u32>>,
     local: Vec<Option<u32>>,
 }
@@ -71,17 +70,14 @@ fn number_of(place: usize) -> u32 {
 impl Making {
     /// No row yet.
     fn new(alloc: Global, rows: usize, events: usize) -> Result<Making, AllocError> {
-        let places = vec![in alloc; None; rows]?;
-        let local = vec![in alloc; None; events]?;
         Ok(Making {
             rows: Vec::new(alloc),
             turned: Vec::new(alloc),
             net_rows: Vec::new(alloc),
             events: Vec::new(alloc),
             constant: 0,
-            walks: Vec::new(alloc),
-            places,
-            local,
+            places: vec![in alloc; None; rows]?,
+            local: vec![in alloc; None; events]?,
         })
     }
 
@@ -133,11 +129,10 @@ impl Making {
 
     /// Takes in the rows of a region.
     fn take_rows(&mut self, whole: WholeNetwork<'_>, region: u32) -> Result<(), AllocError> {
-        for (place, row) in whole.network.rows().iter().enumerate() {
+        let rows = whole.network.rows().iter();
+        for (place, (row, weight)) in rows.zip(whole.weights.rows.iter()).enumerate() {
             let number = number_of(place);
-            if whole.division.of_row(number) == Some(region)
-                && let Some(weight) = whole.weights.rows.get(place)
-            {
+            if whole.division.of_row(number) == Some(region) {
                 self.take(number, *row, *weight)?;
             }
         }
@@ -166,42 +161,41 @@ impl Making {
         Ok(own)
     }
 
-    /// Takes in the walks of inequalities inside a region.
-    fn take_walks(
-        &mut self,
+    /// The walks of inequalities inside a region.
+    fn walks(
+        &self,
         alloc: Global,
         whole: WholeNetwork<'_>,
         region: u32,
-    ) -> Result<(), AllocError> {
+    ) -> Result<Vec<Vec<Pass>>, AllocError> {
+        let mut walks = Vec::new(alloc);
         for inequality in whole.inequalities {
             if whole.division.home(inequality) == Some(region) {
-                let passes = self.passes(alloc, &inequality.inequality.passes)?;
-                self.walks.push(passes)?;
+                walks.push(self.passes(alloc, &inequality.inequality.passes)?)?;
             }
         }
-        Ok(())
+        Ok(walks)
     }
 
-    /// Takes in the rows of a region, and the walks of inequalities inside it.
+    /// Takes in the rows of a region; the walks of inequalities inside it.
     fn fill(
         &mut self,
         alloc: Global,
         whole: WholeNetwork<'_>,
         region: u32,
-    ) -> Result<(), AllocError> {
+    ) -> Result<Vec<Vec<Pass>>, AllocError> {
         self.take_rows(whole, region)?;
-        self.take_walks(alloc, whole, region)
+        self.walks(alloc, whole, region)
     }
 
     /// The region of the rows that were taken in; None where they are no network's.
-    fn region(self, alloc: Global, period: u32) -> Option<Region> {
+    fn region(self, alloc: Global, period: u32, walks: Vec<Vec<Pass>>) -> Option<Region> {
         let Making {
             rows,
             turned,
             net_rows,
             events,
             constant,
-            walks,
             places,
             local,
         } = self;
@@ -234,7 +228,7 @@ impl Region {
         let network = whole.network;
         let mut making = Making::new(alloc, network.rows().len(), network.events() as usize)?;
         match making.fill(alloc, whole, region) {
-            Ok(()) => Ok(making.region(alloc, network.period())),
+            Ok(walks) => Ok(making.region(alloc, network.period(), walks)),
             Err(_) => {
                 drop(making);
                 Err(Memory)

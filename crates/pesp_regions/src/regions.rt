@@ -201,8 +201,8 @@ impl Regions {
     /// Leaves all regions but these, and those inside them, to others.
     fn leave_others(&mut self, own: &[u32]) -> Result<(), AllocError> {
         let are_own = with_inner(self.alloc, &self.nested, own)?;
-        for (place, region) in self.nested.iter_mut().enumerate() {
-            if let Some(false) = are_own.get(place) {
+        for (region, is_own) in self.nested.iter_mut().zip(are_own.iter()) {
+            if !*is_own {
                 region.search.leave();
             }
         }

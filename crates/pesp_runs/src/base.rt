@@ -15,7 +15,7 @@ use pesp_stream::{Source, read_all};
 use std::alloc::Global;
 
 /// A certificate that is read to begin with, and is valid for its instance: one without a front, or one that may have it.
-pub trait Base: Drop {
+pub trait Base {
     // It is valid for the instance.
     ghost valid: { Pesp → Self → Type 0 };
 

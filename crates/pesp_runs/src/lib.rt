@@ -1,4 +1,4 @@
-//! The runs of commands, over any readers and writers: they read an instance, and times, a certificate or works where the command has them;
+//! The runs of commands, over any readers and writers: they read an instance, and times or a certificate where the command has them;
 //! hand them to a task; and say what was read and written, and whose fault it was.
 //!
 //! Why a run stops, as a line and as an exit status; and the texts that several runs read: an instance, times for its events,
@@ -8,15 +8,11 @@
 mod base;
 mod fault;
 mod on_base;
-mod on_works;
 mod search;
-mod start;
 mod texts;
 
 pub use base::Base;
 pub use fault::{Fault, status_of};
 pub use on_base::{OnBase, run_on_base};
-pub use on_works::{OnWorks, run_on_works};
 pub use search::{Search, run_alone, run_from_times};
-pub use start::{FromTimetable, Start};
-pub use texts::{MOST_TEXT, read_base, read_whole_instance, read_whole_times};
+pub use texts::{MOST_TEXT, read_base, read_timetable, read_whole_instance, read_whole_times};

@@ -58,10 +58,7 @@ fn regions_of(
 
 impl Bounding {
     /// The regions of a network whose root was sharpened; None where rows are few, or there are no two regions.
-    pub(crate) fn of(
-        left: Left<'_>,
-        sharpening: &Sharpening,
-    ) -> Result<Option<Box<Bounding>>, Memory> {
+    pub(crate) fn of(left: Left<'_>, sharpening: &Sharpening) -> Result<Option<Bounding>, Memory> {
         if !may_have_regions(left) {
             return Ok(None);
         }
@@ -78,18 +75,15 @@ impl Bounding {
         slacks: &[i64],
         scale: u32,
         root_work: u64,
-    ) -> Result<Option<Box<Bounding>>, Memory> {
+    ) -> Result<Option<Bounding>, Memory> {
         match regions_of(left, &root, slacks, scale) {
-            Ok(Some(regions)) => {
-                let bounding = Bounding {
-                    root,
-                    regions,
-                    bound: 0,
-                    gained_at: 0,
-                    root_work,
-                };
-                Ok(Some(Box::new(left.alloc, bounding)?))
-            }
+            Ok(Some(regions)) => Ok(Some(Bounding {
+                root,
+                regions,
+                bound: 0,
+                gained_at: 0,
+                root_work,
+            })),
             Ok(None) => {
                 drop(root);
                 Ok(None)

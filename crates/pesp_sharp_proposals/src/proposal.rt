@@ -69,10 +69,8 @@ fn labelled(
     let Some(best) = best else {
         return Ok(labelled);
     };
-    for (place, label) in instance.events().iter().enumerate() {
-        if let Some(time) = best.times.get(place) {
-            labelled.push((*label, *time))?;
-        }
+    for (label, time) in instance.events().iter().zip(best.times.iter()) {
+        labelled.push((*label, *time))?;
     }
     Ok(labelled)
 }

@@ -49,10 +49,10 @@ pub(crate) struct Chosen {
 /// split, and after how many times are to be looked for where that is due.
 #[derive(Drop)]
 pub(crate) struct SharpSearch {
-    pub(crate) sharpening: Box<Sharpening>,
+    pub(crate) sharpening: Sharpening,
     pub(crate) best: Option<Best>,
     /// Regions beside the tree, where there are some.
-    pub(crate) bounding: Option<Box<Bounding>>,
+    pub(crate) bounding: Option<Bounding>,
     pub(crate) has_taken_up: bool,
     pub(crate) next: NextTask,
     pub(crate) chosen: Option<Chosen>,
@@ -132,7 +132,7 @@ impl SharpSearch {
     ) -> Result<SharpSearch, Memory> {
         let sharpening = Sharpening::new(left.alloc, left.network, SEED, scale)?;
         Ok(SharpSearch {
-            sharpening: Box::new(left.alloc, sharpening)?,
+            sharpening,
             best: None,
             bounding: None,
             has_taken_up: false,
@@ -178,7 +178,7 @@ impl SharpSearch {
     }
 
     /// Parts what is left into regions by the root that a certificate tells, or by one that is sharpened.
-    fn part_by(&mut self, left: Left<'_>, base: &Fronted) -> Result<Option<Box<Bounding>>, Memory> {
+    fn part_by(&mut self, left: Left<'_>, base: &Fronted) -> Result<Option<Bounding>, Memory> {
         if !may_have_regions(left) {
             return Ok(None);
         }
@@ -381,10 +381,11 @@ impl SharpSearch {
         if self.is_shown() {
             return Ok(());
         }
-        let Some(bounding) = Bounding::of(left, &self.sharpening)? else {
+        let bounding = Bounding::of(left, &self.sharpening)?;
+        if bounding.is_none() {
             return Ok(());
-        };
-        drop(replace(&mut self.bounding, Some(bounding)));
+        }
+        drop(replace(&mut self.bounding, bounding));
         match finder.best()? {
             Some(times) => self.offer_regions(&times),
             None => Ok(()),

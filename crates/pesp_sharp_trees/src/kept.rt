@@ -160,8 +160,8 @@ impl<'a> KeptLines<'a> {
 
     /// The marked walks that kept lines name, behind these.
     pub fn add_walks(&self, alloc: Global, walks: &mut Vec<MarkedWalk>) -> Result<(), Memory> {
-        for (place, walk) in self.marked.iter().enumerate() {
-            if let Some(Some(_)) = self.ranks.get(place) {
+        for (walk, rank) in self.marked.iter().zip(self.ranks.iter()) {
+            if rank.is_some() {
                 walks.push(copied_marked(alloc, walk)?)?;
             }
         }

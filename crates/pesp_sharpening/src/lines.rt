@@ -5,7 +5,6 @@ use crate::tree::{Knot, SharpTree};
 use pesp_inequalities::Pass;
 use pesp_sharp_nodes::{Pool, Setting};
 use std::alloc::{AllocError, Global};
-use std::mem::replace;
 
 /// The numbers that cycles and walks are told by, for each cycle and each inequality of the pool.
 #[derive(Drop)]
@@ -65,19 +64,19 @@ fn ranks(alloc: Global, marks: &[bool]) -> Result<Vec<u32>, AllocError> {
     Ok(ranks)
 }
 
-/// Puts the marked cycles into a list.
-fn tell_cycles(
+/// The marked cycles.
+fn marked_cycles(
     alloc: Global,
     setting: &Setting,
     marks: &[bool],
-    cycles: &mut Vec<Vec<Pass>>,
-) -> Result<(), AllocError> {
-    for (place, cycle) in setting.cycles.iter().enumerate() {
-        if let Some(true) = marks.get(place) {
+) -> Result<Vec<Vec<Pass>>, AllocError> {
+    let mut cycles = Vec::new(alloc);
+    for (cycle, is_marked) in setting.cycles.iter().zip(marks.iter()) {
+        if *is_marked {
             cycles.push(Vec::from_slice(alloc, &cycle.passes)?)?;
         }
     }
-    Ok(())
+    Ok(cycles)
 }
 
 /// The same list by other numbers.
@@ -136,22 +135,22 @@ impl ToldNumbers {
     }
 }
 
-/// Puts the lines of a tree into a list, in preorder.
-fn tell_lines(
+/// The lines of a tree, in preorder.
+fn lines_of(
     alloc: Global,
     setting: &Setting,
     tree: &SharpTree,
     numbers: &ToldNumbers,
-    lines: &mut Vec<SharpLine>,
-) -> Result<(), AllocError> {
+) -> Result<Vec<SharpLine>, AllocError> {
+    let mut lines = Vec::with_capacity(alloc, tree.knots.len())?;
     let mut waiting = Vec::new(alloc);
     waiting.push(0u32)?;
     for _ in 0..tree.knots.len() {
         let Some(place) = waiting.pop() else {
-            return Ok(());
+            return Ok(lines);
         };
         let Some(knot) = tree.knots.get(place as usize) else {
-            return Ok(());
+            return Ok(lines);
         };
         lines.push(numbers.line(alloc, setting, knot)?)?;
         if let Knot::Split { low, high, .. } = knot {
@@ -159,7 +158,7 @@ fn tell_lines(
             waiting.push(*low)?;
         }
     }
-    Ok(())
+    Ok(lines)
 }
 
 /// The least cost that a leaf shows in which there may be a timetable; `u64::MAX` where there is no such leaf.
@@ -184,38 +183,16 @@ pub(crate) fn told(
     given: usize,
     steps: u32,
 ) -> Result<Sharpened, AllocError> {
-    let lines = Vec::with_capacity(alloc, tree.knots.len())?;
-    let mut told = Sharpened {
-        bound: bound_of(setting, tree),
-        cycles: Vec::new(alloc),
-        walks: Vec::new(alloc),
-        lines,
-        steps_used: steps,
-    };
-    match tell(alloc, setting, pool, tree, given, &mut told) {
-        Ok(()) => Ok(told),
-        Err(refused) => {
-            drop(told);
-            Err(refused)
-        }
-    }
-}
-
-/// Puts in the cycles, the walks and the lines of a tree.
-fn tell(
-    alloc: Global,
-    setting: &Setting,
-    pool: &Pool,
-    tree: &SharpTree,
-    given: usize,
-    told: &mut Sharpened,
-) -> Result<(), AllocError> {
     let marks = named_cycles(alloc, setting, tree, given)?;
     let numbers = ToldNumbers {
         cycles: ranks(alloc, &marks)?,
         walks: pool.numbers(alloc)?,
     };
-    tell_cycles(alloc, setting, &marks, &mut told.cycles)?;
-    drop(replace(&mut told.walks, pool.walks(alloc)?));
-    tell_lines(alloc, setting, tree, &numbers, &mut told.lines)
+    Ok(Sharpened {
+        bound: bound_of(setting, tree),
+        cycles: marked_cycles(alloc, setting, &marks)?,
+        walks: pool.walks(alloc)?,
+        lines: lines_of(alloc, setting, tree, &numbers)?,
+        steps_used: steps,
+    })
 }

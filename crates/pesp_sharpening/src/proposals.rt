@@ -16,10 +16,8 @@ fn key_of(row: &NetRow, slack: i64) -> i64 {
 /// The keys of all rows.
 fn keys_of(alloc: Global, frame: &Frame, slacks: &[i64]) -> Result<Vec<i64>, AllocError> {
     let mut keys = Vec::with_capacity(alloc, slacks.len())?;
-    for (place, row) in frame.rows().iter().enumerate() {
-        if let Some(slack) = slacks.get(place) {
-            keys.push(key_of(row, *slack))?;
-        }
+    for (row, slack) in frame.rows().iter().zip(slacks.iter()) {
+        keys.push(key_of(row, *slack))?;
     }
     Ok(keys)
 }
@@ -74,7 +72,5 @@ pub(crate) fn times_near(
     let Some(forest) = RowForest::new(alloc, frame, &numbers)? else {
         return Ok(None);
     };
-    let times = times_along(alloc, frame, &forest, slacks);
-    drop(forest);
-    Ok(Some(times?))
+    Ok(Some(times_along(alloc, frame, &forest, slacks)?))
 }

@@ -43,29 +43,24 @@ impl Shape {
             above: Vec::with_capacity(alloc, lines.len())?,
             second: vec![in alloc; 0u32; lines.len()]?,
         };
-        if shape.read(alloc, lines)? {
-            Ok(Some(shape))
-        } else {
-            Ok(None)
-        }
-    }
-
-    /// Reads the lines; whether they are those of one tree.
-    fn read(&mut self, alloc: Global, lines: &[SharpLine]) -> Result<bool, AllocError> {
         let mut waiting = Vec::new(alloc);
         waiting.push(None)?;
         for (place, line) in lines.iter().enumerate() {
             let Some(above) = waiting.pop() else {
-                return Ok(false);
+                return Ok(None);
             };
             let number = u32::try_from(place).unwrap_or(u32::MAX);
-            self.note(above, number);
-            self.above.push(above)?;
+            shape.note(above, number);
+            shape.above.push(above)?;
             if let SharpLine::Branch { .. } = line {
                 wait_for_parts(&mut waiting, number)?;
             }
         }
-        Ok(waiting.is_empty())
+        if waiting.is_empty() {
+            Ok(Some(shape))
+        } else {
+            Ok(None)
+        }
     }
 
     /// The place of the second part of a branch.

@@ -3,7 +3,7 @@
 use crate::sharpened::LeafMultipliers;
 use pesp_sharp_nodes::{OffsetCut, Pool, Setting};
 use std::alloc::{AllocError, Global};
-use std::mem::replace;
+use std::mem::swap;
 
 /// How many lines a certificate's tree has at most.
 const MOST_LINES: usize = 1_000_000;
@@ -38,43 +38,30 @@ pub(crate) struct SharpTree {
     pairs: usize,
 }
 
-/// No multipliers.
-fn no_multipliers(alloc: Global) -> LeafMultipliers {
-    LeafMultipliers {
-        pairs: Vec::new(alloc),
-        walks: Vec::new(alloc),
-    }
-}
-
 /// How many pairs a leaf has.
 fn pairs_of(leaf: &LeafMultipliers) -> usize {
     leaf.pairs.len().saturating_add(leaf.walks.len())
 }
 
 impl SharpTree {
-    /// A tree without a place.
-    pub(crate) fn new(alloc: Global) -> SharpTree {
-        SharpTree {
-            knots: Vec::new(alloc),
-            pairs: 0,
-        }
-    }
-
-    /// The root: a leaf without multipliers, or a gap where a cycle has no offset.
-    pub(crate) fn begin(&mut self, alloc: Global, setting: &Setting) -> Result<(), AllocError> {
-        self.add(match setting.first_gap() {
+    /// A tree that is one leaf without multipliers, or a gap where a cycle has no offset.
+    pub(crate) fn new(alloc: Global, setting: &Setting) -> Result<SharpTree, AllocError> {
+        let knot = match setting.first_gap() {
             Some(cycle) => Knot::Gap { cycle },
             None => Knot::Leaf {
-                leaf: no_multipliers(alloc),
+                leaf: LeafMultipliers {
+                    pairs: Vec::new(alloc),
+                    walks: Vec::new(alloc),
+                },
                 bound: 0,
             },
-        })?;
-        Ok(())
-    }
-
-    /// Whether the tree is one leaf.
-    pub(crate) fn is_leaf(&self) -> bool {
-        matches!(self.knots.first(), Some(Knot::Leaf { .. }))
+        };
+        let mut tree = SharpTree {
+            knots: Vec::new(alloc),
+            pairs: 0,
+        };
+        tree.add(knot)?;
+        Ok(tree)
     }
 
     /// A place more; its number.
@@ -130,24 +117,15 @@ impl SharpTree {
         place: u32,
         knot: Knot,
     ) -> Result<(), AllocError> {
-        let old = match self.knots.get_mut(place as usize) {
-            Some(slot) => replace(slot, knot),
-            None => knot,
-        };
-        let left = self.leave(alloc, pool, &old);
-        drop(old);
-        left
-    }
-
-    /// A place is no longer there.
-    fn leave(&mut self, alloc: Global, pool: &mut Pool, knot: &Knot) -> Result<(), AllocError> {
-        match knot {
-            Knot::Leaf { leaf, .. } | Knot::Shut { leaf } => {
-                self.pairs = self.pairs.saturating_sub(pairs_of(leaf));
-                untell(alloc, pool, leaf)
-            }
-            _ => Ok(()),
+        let mut other = knot;
+        if let Some(slot) = self.knots.get_mut(place as usize) {
+            swap(slot, &mut other);
         }
+        if let Knot::Leaf { leaf, .. } | Knot::Shut { leaf } = &other {
+            self.pairs = self.pairs.saturating_sub(pairs_of(leaf));
+            untell(alloc, pool, leaf)?;
+        }
+        Ok(())
     }
 
     /// Puts another leaf in the place of one.
@@ -192,7 +170,10 @@ impl SharpTree {
                 pairs: Vec::from_slice(alloc, &leaf.pairs)?,
                 walks: Vec::from_slice(alloc, &leaf.walks)?,
             }),
-            _ => Ok(no_multipliers(alloc)),
+            _ => Ok(LeafMultipliers {
+                pairs: Vec::new(alloc),
+                walks: Vec::new(alloc),
+            }),
         }
     }
 

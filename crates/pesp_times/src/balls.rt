@@ -83,28 +83,20 @@ impl TimetableSearch {
         found
     }
 
-    /// A network in which all but a ball is contracted; None where there is none.
-    fn freed(
+    /// Frees a ball, and takes what is found if it isn't dearer.
+    pub(crate) fn try_ball(
         &mut self,
         network: &Network,
-        found: &Found,
-    ) -> Result<Option<ClusterContraction>, Memory> {
-        let Some(clusters) = self.ball(found)? else {
-            return Ok(None);
-        };
-        let made = ClusterContraction::new(self.alloc, network, &found.slacks, &clusters);
-        drop(clusters);
-        Ok(made?)
-    }
-
-    /// Takes what is found in a ball if it isn't dearer.
-    fn take_solved(
-        &mut self,
-        network: &Network,
-        contraction: &ClusterContraction,
         found: &mut Found,
         rounds: u32,
     ) -> Result<(), Memory> {
+        let Some(clusters) = self.ball(found)? else {
+            return Ok(());
+        };
+        let made = ClusterContraction::new(self.alloc, network, &found.slacks, &clusters)?;
+        let Some(contraction) = made else {
+            return Ok(());
+        };
         let Some(solved) = self.solved(&contraction.network, rounds)? else {
             return Ok(());
         };
@@ -113,20 +105,5 @@ impl TimetableSearch {
             found.cost = cost_of(network, &found.slacks);
         }
         Ok(())
-    }
-
-    /// Frees a ball, and takes what is found if it isn't dearer.
-    pub(crate) fn try_ball(
-        &mut self,
-        network: &Network,
-        found: &mut Found,
-        rounds: u32,
-    ) -> Result<(), Memory> {
-        let Some(contraction) = self.freed(network, found)? else {
-            return Ok(());
-        };
-        let taken = self.take_solved(network, &contraction, found, rounds);
-        drop(contraction);
-        taken
     }
 }

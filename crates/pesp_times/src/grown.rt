@@ -59,14 +59,6 @@ impl OrderGrowth<'_> {
         }
         Ok(())
     }
-
-    /// Puts in these events, and all that rows lead to from there.
-    fn grow(&mut self, starts: &[u32]) -> Result<(), AllocError> {
-        for event in starts {
-            self.grow_from(*event)?;
-        }
-        Ok(())
-    }
 }
 
 /// The events in an order that grows over the rows, from the first of those at which it starts that isn't in it.
@@ -76,18 +68,17 @@ fn grown_over(
     marks: &[u64],
     starts: &[u32],
 ) -> Result<Vec<u32>, AllocError> {
-    let is_in = vec![in alloc; false; frame.events()]?;
     let mut growth = OrderGrowth {
         frame,
         marks,
         steps: BinaryHeap::new(alloc),
-        is_in,
+        is_in: vec![in alloc; false; frame.events()]?,
         order: Vec::new(alloc),
     };
-    let grown = growth.grow(starts);
-    let OrderGrowth { order, .. } = growth;
-    grown?;
-    Ok(order)
+    for event in starts {
+        growth.grow_from(*event)?;
+    }
+    Ok(growth.order)
 }
 
 /// The events in an order that grows over the rows of a network, by narrow ones first, so that those of a train stand behind each

@@ -9,7 +9,7 @@ use pesp_problem::Memory;
 use pesp_propagate::{dive, dive_to};
 use pesp_soft_times::is_dense;
 use pesp_timetables::{Found, Keys, Relaxation, slacks_of};
-use std::mem::replace;
+use std::mem;
 
 /// How many tries a dive to the root's prices has.
 const TRIES_NEAR: u32 = 50;
@@ -33,20 +33,15 @@ fn dives_for(network: &Network) -> u32 {
     }
 }
 
-/// Whether an annealer is cheaper than another one, or there is no other.
-fn is_cheaper(one: &Annealer, other: &Option<Annealer>) -> bool {
-    match other {
-        Some(other) => one.cost() < other.cost(),
-        None => true,
-    }
-}
-
-/// Keeps an annealer where it is cheaper than the one that was kept.
-fn keep_cheaper(kept: &mut Option<Annealer>, annealer: Annealer) {
-    if is_cheaper(&annealer, kept) {
-        drop(replace(kept, Some(annealer)));
+/// The cheaper of two annealers.
+fn cheaper(one: Option<Annealer>, other: Annealer) -> Annealer {
+    let Some(one) = one else {
+        return other;
+    };
+    if one.cost() <= other.cost() {
+        one
     } else {
-        drop(annealer);
+        other
     }
 }
 
@@ -67,13 +62,8 @@ impl TimetableSearch {
         let Some(mut annealer) = Annealer::new(self.alloc, network, slacks, seed)? else {
             return Ok(None);
         };
-        match annealer.descend(network, rounds) {
-            Ok(()) => Ok(Some(annealer)),
-            Err(refused) => {
-                drop(annealer);
-                Err(refused)
-            }
-        }
+        annealer.descend(network, rounds)?;
+        Ok(Some(annealer))
     }
 
     /// An annealer from these times, after greedy rounds.
@@ -127,21 +117,6 @@ impl TimetableSearch {
         }
     }
 
-    /// Dives into a relaxation some times, and keeps the best.
-    fn dive_into(
-        &mut self,
-        network: &Network,
-        relaxation: &mut Relaxation,
-        best: &mut Option<Annealer>,
-    ) -> Result<(), Memory> {
-        for _ in 0..dives_for(network) {
-            if let Some(annealer) = self.dived(network, relaxation)? {
-                keep_cheaper(best, annealer);
-            }
-        }
-        Ok(())
-    }
-
     /// The best of some dives of a relaxation.
     fn best_dived(
         &mut self,
@@ -149,34 +124,22 @@ impl TimetableSearch {
         relaxation: &mut Relaxation,
     ) -> Result<Option<Annealer>, Memory> {
         let mut best = None;
-        match self.dive_into(network, relaxation, &mut best) {
-            Ok(()) => Ok(best),
-            Err(refused) => {
-                drop(best);
-                Err(refused)
+        for _ in 0..dives_for(network) {
+            if let Some(annealer) = self.dived(network, relaxation)? {
+                best = Some(cheaper(best, annealer));
             }
         }
+        Ok(best)
     }
 
     /// The relaxation of the root, which is made once and to be put back; None where there is none.
-    fn take_root(&mut self, network: &Network) -> Result<Option<Box<Relaxation>>, Memory> {
-        match replace(&mut self.root, Prepared::NotYet) {
+    fn take_root(&mut self, network: &Network) -> Result<Option<Relaxation>, Memory> {
+        match mem::replace(&mut self.root, Prepared::NotYet) {
             Prepared::Sought(found) => Ok(found),
-            Prepared::NotYet => self.new_root(network),
+            Prepared::NotYet => {
+                Ok(Relaxation::new(self.alloc, network, Keys::Plain, &mut self.random)?)
+            }
         }
-    }
-
-    /// The relaxation of the root; None where there is none.
-    fn new_root(&mut self, network: &Network) -> Result<Option<Box<Relaxation>>, Memory> {
-        match Relaxation::new(self.alloc, network, Keys::Plain, &mut self.random)? {
-            Some(relaxation) => Ok(Some(Box::new(self.alloc, relaxation)?)),
-            None => Ok(None),
-        }
-    }
-
-    /// Puts the relaxation of the root back.
-    fn put_root(&mut self, root: Option<Box<Relaxation>>) {
-        drop(replace(&mut self.root, Prepared::Sought(root)));
     }
 
     /// An annealer from times near the prices of a root, after greedy rounds.
@@ -190,26 +153,22 @@ impl TimetableSearch {
     /// The best of some dives of the root's relaxation, or an annealer from times near its prices.
     fn by_root(&mut self, network: &Network, start: Start) -> Result<Option<Annealer>, Memory> {
         let Some(mut root) = self.take_root(network)? else {
-            self.put_root(None);
+            self.root = Prepared::Sought(None);
             return Ok(None);
         };
         let found = if start == Start::Relaxed {
-            self.best_dived(network, &mut root)
+            self.best_dived(network, &mut root)?
         } else {
-            self.near(network, &root)
+            self.near(network, &root)?
         };
-        self.put_root(Some(root));
-        found
+        self.root = Prepared::Sought(Some(root));
+        Ok(found)
     }
 
     /// The best of some dives of the relaxation over a forest that is drawn.
     fn elsewhere(&mut self, network: &Network) -> Result<Option<Annealer>, Memory> {
         match Relaxation::new(self.alloc, network, Keys::Drawn, &mut self.random)? {
-            Some(mut relaxation) => {
-                let best = self.best_dived(network, &mut relaxation);
-                drop(relaxation);
-                best
-            }
+            Some(mut relaxation) => self.best_dived(network, &mut relaxation),
             None => Ok(None),
         }
     }
@@ -218,28 +177,28 @@ impl TimetableSearch {
     fn warmed(
         &mut self,
         network: &Network,
-        annealer: &mut Annealer,
+        mut annealer: Annealer,
         rounds: u32,
     ) -> Result<Found, Memory> {
-        let mean = self.mean_of(network, annealer);
+        let mean = self.mean_of(network, &annealer);
         annealer.anneal(network, rounds, mean.saturating_mul(2))?;
-        self.found_by(network, annealer)
+        self.found_by(network, &annealer)
     }
 
     /// A hot anneal and a low one behind a dive that knew no prices; the low one alone where there are many rows.
     fn melted(
         &mut self,
         network: &Network,
-        annealer: &mut Annealer,
+        mut annealer: Annealer,
         rounds: u32,
     ) -> Result<Found, Memory> {
         if network.rows().len() > MOST_DIVED {
             return self.warmed(network, annealer, rounds);
         }
-        let mean = self.mean_of(network, annealer);
+        let mean = self.mean_of(network, &annealer);
         annealer.anneal(network, rounds, mean.saturating_mul(32))?;
         annealer.anneal(network, rounds / 2, mean.saturating_mul(2))?;
-        self.found_by(network, annealer)
+        self.found_by(network, &annealer)
     }
 
     /// Where an individual of a kind begins, after greedy rounds.
@@ -254,30 +213,6 @@ impl TimetableSearch {
         }
     }
 
-    /// Where an individual of a plain dive begins, after greedy rounds.
-    fn begun_plainly(&mut self, network: &Network) -> Result<Option<Annealer>, Memory> {
-        match self.plain_times(network)? {
-            Some(times) => self.started(network, &times),
-            None => Ok(None),
-        }
-    }
-
-    /// A new individual of a plain dive.
-    fn plain_individual(
-        &mut self,
-        network: &Network,
-        rounds: u32,
-    ) -> Result<Option<Found>, Memory> {
-        let Some(mut annealer) = self.begun_plainly(network)? else {
-            return Ok(None);
-        };
-        let found = self.melted(network, &mut annealer, rounds);
-        drop(annealer);
-        let found = found?;
-        self.kinds.note(Start::Plain, found.cost);
-        Ok(Some(found))
-    }
-
     /// A new individual of a kind, with anneals of so many rounds; one of a plain dive where that kind finds none.
     pub(crate) fn individual(
         &mut self,
@@ -285,13 +220,19 @@ impl TimetableSearch {
         start: Start,
         rounds: u32,
     ) -> Result<Option<Found>, Memory> {
-        let Some(mut annealer) = self.begun(network, start)? else {
-            return self.plain_individual(network, rounds);
+        if let Some(annealer) = self.begun(network, start)? {
+            let found = self.warmed(network, annealer, rounds)?;
+            self.kinds.note(start, found.cost);
+            return Ok(Some(found));
+        }
+        let Some(times) = self.plain_times(network)? else {
+            return Ok(None);
         };
-        let found = self.warmed(network, &mut annealer, rounds);
-        drop(annealer);
-        let found = found?;
-        self.kinds.note(start, found.cost);
+        let Some(annealer) = self.started(network, &times)? else {
+            return Ok(None);
+        };
+        let found = self.melted(network, annealer, rounds)?;
+        self.kinds.note(Start::Plain, found.cost);
         Ok(Some(found))
     }
 
@@ -302,11 +243,9 @@ impl TimetableSearch {
         met: Found,
         rounds: u32,
     ) -> Result<Option<Found>, Memory> {
-        let Some(mut annealer) = self.descended(network, met.slacks, GREEDY)? else {
-            return Ok(None);
-        };
-        let found = self.warmed(network, &mut annealer, rounds);
-        drop(annealer);
-        Ok(Some(found?))
+        match self.descended(network, met.slacks, GREEDY)? {
+            Some(annealer) => Ok(Some(self.warmed(network, annealer, rounds)?)),
+            None => Ok(None),
+        }
     }
 }

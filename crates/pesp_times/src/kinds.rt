@@ -1,5 +1,7 @@
 //! Kinds of individuals, and which are to come next.
 
+use std::alloc::{AllocError, Global};
+
 /// Where an individual begins: at a dive of the relaxation over the forest of smallest spans by weight, or over one that is
 /// drawn; near the prices of the root; or at a dive that looks at no prices.
 #[derive(Clone, Copy, PartialEq, Eq)]
@@ -21,7 +23,7 @@ struct IndividualKind {
 /// All kinds, those that cost least in front, and how many fours there were.
 #[derive(Drop)]
 pub(crate) struct Kinds {
-    list: [IndividualKind; 4],
+    list: Vec<IndividualKind>,
     fours: u32,
 }
 
@@ -34,15 +36,6 @@ const ALL: [Start; 4] = [
 ];
 
 impl IndividualKind {
-    /// No individual so far.
-    fn none(start: Start) -> IndividualKind {
-        IndividualKind {
-            start,
-            count: 0,
-            cost: 0,
-        }
-    }
-
     /// What an individual costs in the mean.
     fn mean(&self) -> u128 {
         self.cost / u128::from(self.count.max(1))
@@ -51,17 +44,16 @@ impl IndividualKind {
 
 impl Kinds {
     /// No individual so far.
-    pub(crate) fn new() -> Kinds {
-        let [first, second, third, last] = ALL;
-        Kinds {
-            list: [
-                IndividualKind::none(first),
-                IndividualKind::none(second),
-                IndividualKind::none(third),
-                IndividualKind::none(last),
-            ],
-            fours: 0,
+    pub(crate) fn new(alloc: Global) -> Result<Kinds, AllocError> {
+        let mut list = Vec::new(alloc);
+        for start in ALL {
+            list.push(IndividualKind {
+                start,
+                count: 0,
+                cost: 0,
+            })?;
         }
+        Ok(Kinds { list, fours: 0 })
     }
 
     /// Notes what an individual of a kind costs.

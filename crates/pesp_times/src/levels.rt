@@ -105,30 +105,22 @@ impl Spread<'_> {
         }
         Ok(())
     }
-
-    /// Gives levels to all events.
-    fn spread(&mut self) -> Result<(), AllocError> {
-        for event in 0..self.levels.len() {
-            let first = self.reached.len();
-            self.set(u32::try_from(event).unwrap_or(0), 0)?;
-            self.spread_from(first)?;
-        }
-        Ok(())
-    }
 }
 
 /// The levels of all events over a frame.
 fn spread_over(alloc: Global, frame: &Frame) -> Result<Vec<Option<u32>>, AllocError> {
-    let levels = vec![in alloc; None; frame.events()]?;
+    let events = frame.events();
     let mut spread = Spread {
         frame,
-        levels,
+        levels: vec![in alloc; None; events]?,
         reached: Vec::new(alloc),
     };
-    let done = spread.spread();
-    let Spread { levels, .. } = spread;
-    done?;
-    Ok(levels)
+    for event in 0..events {
+        let first = spread.reached.len();
+        spread.set(u32::try_from(event).unwrap_or(0), 0)?;
+        spread.spread_from(first)?;
+    }
+    Ok(spread.levels)
 }
 
 /// Levels of the events of a network, at which equal times give the rows of a spanning forest their greatest durations. It grows

@@ -2,6 +2,7 @@
 
 use crate::order::Ordered;
 use crate::search::TimetableSearch;
+use pesp_forest::Effort;
 use pesp_network::Network;
 use pesp_problem::Memory;
 use std::alloc::Global;
@@ -11,15 +12,15 @@ use std::alloc::Global;
 #[derive(Drop)]
 pub(crate) struct Looking {
     alloc: Global,
-    pub(crate) ordered: Ordered,
-    pub(crate) search: Box<TimetableSearch>,
+    ordered: Ordered,
+    search: TimetableSearch,
 }
 
 impl Looking {
     /// A search that has found nothing yet.
     pub(crate) fn at(alloc: Global, network: &Network) -> Result<Looking, Memory> {
         let ordered = Ordered::of(alloc, network)?;
-        match TimetableSearch::boxed(alloc, &ordered.network) {
+        match TimetableSearch::new(alloc, &ordered.network) {
             Ok(search) => Ok(Looking {
                 alloc,
                 ordered,
@@ -30,6 +31,31 @@ impl Looking {
                 Err(refused)
             }
         }
+    }
+
+    /// So much is done before the first step.
+    pub(crate) fn set_effort(&mut self, effort: Effort) {
+        self.search.set_effort(effort);
+    }
+
+    /// What is found before the first step of a search.
+    pub(crate) fn begin(&mut self) -> Result<(), Memory> {
+        self.search.begin(&self.ordered.network)
+    }
+
+    /// Whether the first batch is made piece by piece and isn't over.
+    pub(crate) fn owes_first(&self) -> bool {
+        self.search.owes_first()
+    }
+
+    /// Makes what is left of the first batch, where it is made piece by piece.
+    pub(crate) fn end_first(&mut self) -> Result<(), Memory> {
+        self.search.end_first(&self.ordered.network)
+    }
+
+    /// What is found after so many steps.
+    pub(crate) fn go_on(&mut self, steps: u32) -> Result<(), Memory> {
+        self.search.go_on(&self.ordered.network, steps)
     }
 
     /// Takes times that were met elsewhere.
@@ -44,5 +70,20 @@ impl Looking {
             return Ok(None);
         };
         Ok(Some(self.ordered.from_places(self.alloc, times)?))
+    }
+
+    /// How many numbers were looked at so far, about.
+    pub(crate) fn work(&self) -> u64 {
+        self.search.work()
+    }
+
+    /// Whether an anneal has begun that isn't over.
+    pub(crate) fn is_annealing(&self) -> bool {
+        self.search.is_annealing()
+    }
+
+    /// Makes the next piece of a batch.
+    pub(crate) fn make_piece(&mut self) -> Result<(), Memory> {
+        self.search.make_piece(&self.ordered.network)
     }
 }

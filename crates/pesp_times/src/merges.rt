@@ -34,8 +34,9 @@ impl TimetableSearch {
         for found in pool.iter().take(TRIES) {
             let slacks = merge.contraction.taken_from(self.alloc, &found.slacks)?;
             let network = &merge.contraction.network;
-            if let Some(annealer) = self.descended(network, slacks, 0)? {
-                self.anneal_between(merge, annealer, rounds)?;
+            if let Some(mut annealer) = self.descended(network, slacks, 0)? {
+                annealer.anneal(network, rounds, self.heat())?;
+                merge.note(annealer.cost(), annealer.slacks());
             }
         }
         Ok(())
@@ -45,13 +46,12 @@ impl TimetableSearch {
     fn anneal_between(
         &mut self,
         merge: &mut Merge,
-        mut annealer: Annealer,
+        annealer: &mut Annealer,
         rounds: u32,
     ) -> Result<(), Memory> {
-        let annealed = annealer.anneal(&merge.contraction.network, rounds, self.heat());
+        annealer.anneal(&merge.contraction.network, rounds, self.heat())?;
         merge.note(annealer.cost(), annealer.slacks());
-        drop(annealer);
-        annealed
+        Ok(())
     }
 
     /// Dives into a relaxation, and anneals what is found.
@@ -62,8 +62,10 @@ impl TimetableSearch {
         rounds: u32,
     ) -> Result<(), Memory> {
         for _ in 0..TRIES {
-            if let Some(annealer) = self.dived(&merge.contraction.network, relaxation)? {
-                self.anneal_between(merge, annealer, rounds)?;
+            if let Some(mut annealer) = self.dived(&merge.contraction.network, relaxation)? {
+                let done = self.anneal_between(merge, &mut annealer, rounds);
+                drop(annealer);
+                done?;
             }
         }
         Ok(())
@@ -82,38 +84,6 @@ impl TimetableSearch {
         done
     }
 
-    /// Searches between the clusters of a merge.
-    fn search_between(
-        &mut self,
-        merge: &mut Merge,
-        pool: &[Found],
-        rounds: u32,
-    ) -> Result<(), Memory> {
-        self.anneal_pool(merge, pool, rounds)?;
-        if merge.contraction.network.rows().len() <= MOST_DIVED {
-            self.dive_between(merge, rounds)?;
-        }
-        Ok(())
-    }
-
-    /// Has a cheaper timetable that agrees with all of a pool, where one is found, in the place of the first.
-    fn merge_into_first(
-        &mut self,
-        network: &Network,
-        pool: &mut [Found],
-        rounds: u32,
-    ) -> Result<(), Memory> {
-        let Some(mut merge) = Merge::of(self.alloc, network, pool)? else {
-            return Ok(());
-        };
-        let searched = self.search_between(&mut merge, pool, rounds);
-        if let Some(first) = pool.first_mut() {
-            merge.put_into(network, first);
-        }
-        drop(merge);
-        searched
-    }
-
     /// The cheapest timetable of a pool, or a cheaper one that agrees with all of it where they agree.
     pub(crate) fn merged(
         &mut self,
@@ -123,12 +93,18 @@ impl TimetableSearch {
     ) -> Result<Option<Found>, Memory> {
         pool.sort_unstable_by_key(|found| found.cost);
         pool.truncate(count_near(network.rows().len(), &pool));
-        let merged = self.merge_into_first(network, &mut pool, rounds);
+        let opened = Merge::of(self.alloc, network, &pool)?;
+        if let Some(mut merge) = opened {
+            self.anneal_pool(&mut merge, &pool, rounds)?;
+            if merge.contraction.network.rows().len() <= MOST_DIVED {
+                self.dive_between(&mut merge, rounds)?;
+            }
+            if let Some(first) = pool.first_mut() {
+                merge.put_into(network, first);
+            }
+        }
         pool.truncate(1);
-        let best = pool.pop();
-        drop(pool);
-        merged?;
-        let Some(best) = best else {
+        let Some(best) = pool.pop() else {
             return Ok(None);
         };
         self.note(network, &best)?;

@@ -156,10 +156,8 @@ impl Ordered {
     pub(crate) fn to_places(&self, alloc: Global, times: &[u32]) -> Result<Vec<u32>, AllocError> {
         let mut placed = vec![in alloc; 0u32; times.len()]?;
         let period = self.network.period();
-        for (event, place) in self.places.iter().enumerate() {
-            if let Some(time) = times.get(event)
-                && let Some(slot) = placed.get_mut(*place as usize)
-            {
+        for (place, time) in self.places.iter().zip(times.iter()) {
+            if let Some(slot) = placed.get_mut(*place as usize) {
                 *slot = lowered(period, &self.levels, *place, *time);
             }
         }

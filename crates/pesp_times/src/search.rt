@@ -34,7 +34,7 @@ pub(crate) struct TimetableSearch {
     pub(crate) alloc: Global,
     pub(crate) frame: Frame,
     pub(crate) random: Random,
-    pub(crate) root: Prepared<Box<Relaxation>>,
+    pub(crate) root: Prepared<Relaxation>,
     pub(crate) plain: Prepared<Vec<u32>>,
     pub(crate) mean: u64,
     pub(crate) kinds: Kinds,
@@ -45,7 +45,7 @@ pub(crate) struct TimetableSearch {
     soft_rest: Rest,
     apart: Cheapest,
     hard: Cheapest,
-    pub(crate) soft: Box<SoftSearch>,
+    pub(crate) soft: SoftSearch,
 }
 
 /// How many batches, or how many reheats, in turn found nothing cheaper, and how many are left out for it.
@@ -102,16 +102,14 @@ fn cheaper_times<'a>(
 impl TimetableSearch {
     /// A search that has found nothing yet.
     pub(crate) fn new(alloc: Global, network: &Network) -> Result<TimetableSearch, Memory> {
-        let soft = Box::new(alloc, SoftSearch::new(alloc))?;
-        let frame = Frame::new(alloc, network)?;
         Ok(TimetableSearch {
             alloc,
-            frame,
+            frame: Frame::new(alloc, network)?,
             random: Random::new(1),
             root: Prepared::NotYet,
             plain: Prepared::NotYet,
             mean: 0,
-            kinds: Kinds::new(),
+            kinds: Kinds::new(alloc)?,
             waiting: Vec::new(alloc),
             pieces: Pieces::new(alloc),
             effort: Effort::Whole,
@@ -119,14 +117,8 @@ impl TimetableSearch {
             soft_rest: Rest::none(),
             apart: Cheapest::none(),
             hard: Cheapest::none(),
-            soft,
+            soft: SoftSearch::new(alloc),
         })
-    }
-
-    /// The same, in a place of its own.
-    pub(crate) fn boxed(alloc: Global, network: &Network) -> Result<Box<TimetableSearch>, Memory> {
-        let search = TimetableSearch::new(alloc, network)?;
-        Ok(Box::new(alloc, search)?)
     }
 
     /// So much is done before the first step.
@@ -144,7 +136,7 @@ impl TimetableSearch {
 
     /// One timetable of a plain dive, annealed a little, of which the first batch knows nothing.
     fn begin_short(&mut self, network: &Network) -> Result<(), Memory> {
-        let mut short = TimetableSearch::boxed(self.alloc, network)?;
+        let mut short = TimetableSearch::new(self.alloc, network)?;
         let found = short.individual(network, Start::Plain, SHORT_ROUNDS);
         swap(&mut self.plain, &mut short.plain);
         drop(short);

@@ -43,34 +43,34 @@ impl TimesFinder for TimesSearch {
 
     fn set_effort(&mut self, effort: Effort) {
         if let Some(looking) = &mut self.looking {
-            looking.search.set_effort(effort);
+            looking.set_effort(effort);
         }
     }
 
     fn begin(&mut self) -> Result<(), Memory> {
         match &mut self.looking {
-            Some(looking) => looking.search.begin(&looking.ordered.network),
+            Some(looking) => looking.begin(),
             None => Ok(()),
         }
     }
 
     fn owes_first(&self) -> bool {
         match &self.looking {
-            Some(looking) => looking.search.owes_first(),
+            Some(looking) => looking.owes_first(),
             None => false,
         }
     }
 
     fn end_first(&mut self) -> Result<(), Memory> {
         match &mut self.looking {
-            Some(looking) => looking.search.end_first(&looking.ordered.network),
+            Some(looking) => looking.end_first(),
             None => Ok(()),
         }
     }
 
     fn go_on(&mut self, steps: u32) -> Result<(), Memory> {
         match &mut self.looking {
-            Some(looking) => looking.search.go_on(&looking.ordered.network, steps),
+            Some(looking) => looking.go_on(steps),
             None => Ok(()),
         }
     }
@@ -91,21 +91,21 @@ impl TimesFinder for TimesSearch {
 
     fn work(&self) -> u64 {
         match &self.looking {
-            Some(looking) => looking.search.work(),
+            Some(looking) => looking.work(),
             None => 0,
         }
     }
 
     fn is_annealing(&self) -> bool {
         match &self.looking {
-            Some(looking) => looking.search.is_annealing(),
+            Some(looking) => looking.is_annealing(),
             None => false,
         }
     }
 
     fn make_piece(&mut self) -> Result<(), Memory> {
         match &mut self.looking {
-            Some(looking) => looking.search.make_piece(&looking.ordered.network),
+            Some(looking) => looking.make_piece(),
             None => Ok(()),
         }
     }

@@ -1,3 +1,8 @@
+use Rattle.std.proofs.Common.{◌∙◌, sym, subst}
+use Rattle.pesp_problem.specs.Arcs.{net_of}
+use Rattle.pesp_truth.specs.Trees.{Claim}
+use Rattle.pesp_leaves.specs.Ranges.{node_of}
+use Rattle.pesp_leaves.specs.Claims.{TellsOf, scaled_by}
 use Rattle.pesp_leaves.proofs.values.value_of.Goals as goal
 
 pub value_shown-requires-clause-fits : goal.value_shown-requires-clause-fits

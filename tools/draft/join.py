@@ -7,7 +7,7 @@ pesp_runs pesp_faults; pesp_report_run pesp_conflict_run; pesp_request pesp_limi
 laws=lending_laws; pesp_conflict pesp_conflict_list.
 
 The next nine go through too, and weren't compiled: pesp_stream pesp_text; pesp_forest pesp_search_tools; pesp_tree pesp_queue
-laws=queue_laws; pesp_check pesp_telling; pesp_machine pesp_search_laws Replies=TurnReplies Sizes=TreeSizes; pesp_cert_items pesp_works;
+laws=queue_laws; pesp_check_run pesp_telling; pesp_machine pesp_search_laws Replies=TurnReplies Sizes=TreeSizes; pesp_cert_items pesp_works;
 pesp_nets pesp_support; pesp_truth pesp_leaves Leaves=LeafLaws; pesp_lemma pesp_lemma_leaves. Then there are 73 crates."""
 import os,re,sys,shutil
 top,into,frm=sys.argv[1:4]

@@ -1,5 +1,5 @@
-//! A basis of a dual simplex over the slacks of rows: the columns and lines of a program, where its slacks and lines stand, and
-//! the inverse with the changes that are still to be made. Nothing is promised of it but that all is found safely.
+//! A basis of a dual simplex over the slacks of rows. The columns and lines of a program, and where its slacks and lines stand. The
+//! inverse, with the changes that are still to be made. Nothing is promised of it but that all is found safely.
 #![tactic(auto)]
 
 mod fixed;

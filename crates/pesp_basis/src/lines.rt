@@ -57,7 +57,7 @@ pub fn span_at(columns: &[Column], place: usize) -> i64 {
     }
 }
 
-/// How far the ends of a line are from each other; 0 where there is no such line.
+/// How far the ends of a line are from each other. 0 where there is no such line.
 pub fn range_at(lines: &[Constraint], number: u32) -> i64 {
     match lines.get(number as usize) {
         Some(line) => line.range(),

@@ -164,7 +164,7 @@ impl State {
         false
     }
 
-    /// What the multipliers are worth as they are; those of the wrong sign count as 0.
+    /// What the multipliers are worth as they are. Those of the wrong sign count as 0.
     fn worth_of_lines(&self, lines: &[Constraint]) -> i64 {
         let mut worth = 0i64;
         for (place, sum) in self.sums.iter().enumerate() {
@@ -175,7 +175,7 @@ impl State {
         worth
     }
 
-    /// The value of the multipliers as they are; those of the wrong sign count as 0.
+    /// The value of the multipliers as they are. Those of the wrong sign count as 0.
     pub fn value_shown(&self, columns: &[Column], lines: &[Constraint]) -> i64 {
         let mut value = self.worth_of_lines(lines);
         for (place, slack) in self.slacks.iter().enumerate() {

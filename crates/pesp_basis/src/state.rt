@@ -4,8 +4,8 @@ use crate::members::Member;
 use crate::updates::Update;
 use std::alloc::{AllocError, Global};
 
-/// Where a slack or a line stands: its value, which is a line's sum; its price, which is a slack's reduced cost or a line's
-/// multiplier; its place among the basic slacks or the tight lines; and where it is at an end, whether that is the greater one.
+/// Where a slack or a line stands. Its value; a line's is its sum. Its price: a slack's reduced cost, or a line's multiplier. Its
+/// place among the basic slacks, or among the tight lines. Where it is at an end, whether that is the greater one.
 #[derive(Clone, Copy)]
 pub struct Standing {
     pub value: i64,
@@ -17,9 +17,9 @@ pub struct Standing {
 /// What stands at a place that no slack or line has any longer.
 pub const VACANT: u32 = u32::MAX;
 
-/// Where a simplex stands: the basic slacks and the tight lines, by place; all slacks and lines; the value; and how many
-/// exchanges were made since the inverse was built. It is of the inverse of this number, with so many of its changes, and with
-/// these behind them.
+/// Where a simplex stands. The basic slacks and the tight lines, by place. All slacks and lines, and the value. How many exchanges
+/// were made since the inverse was built. It is of the inverse of this number, with `kept` of its changes. Behind these come
+/// `updates`.
 #[derive(Drop)]
 pub struct State {
     pub basic: Vec<u32>,
@@ -47,7 +47,7 @@ impl Standing {
         }
     }
 
-    /// Is at the end that its price wants; at the lesser one where it has no greater one.
+    /// Is at the end that its price wants. Where it has no greater one, it is at the lesser one.
     pub fn choose_end(&mut self, has_greater: bool) {
         if !has_greater || self.price > NO_PRICE {
             self.is_up = false;
@@ -105,21 +105,21 @@ impl State {
     }
 
     /// The same, to be changed.
-    fn standing_mut(&mut self, member: Member) -> Option<&mut Standing> {
+    fn standing_to_change(&mut self, member: Member) -> Option<&mut Standing> {
         match member {
             Member::Slack(number) => self.slacks.get_mut(number as usize),
             Member::Line(number) => self.sums.get_mut(number as usize),
         }
     }
 
-    /// The place of a slack among the basic ones, or of a line among the tight ones.
+    /// A slack's place among the basic ones, or a line's among the tight ones.
     pub fn place_of(&self, member: Member) -> Option<u32> {
         self.standing(member)?.place
     }
 
     /// Sets the place of a slack, or of a line.
     pub fn set_place(&mut self, member: Member, place: Option<u32>) {
-        if let Some(standing) = self.standing_mut(member) {
+        if let Some(standing) = self.standing_to_change(member) {
             standing.place = place;
         }
     }
@@ -190,14 +190,14 @@ impl State {
 
     /// Sets at which end a slack or a line is.
     pub fn set_end(&mut self, member: Member, is_up: bool) {
-        if let Some(standing) = self.standing_mut(member) {
+        if let Some(standing) = self.standing_to_change(member) {
             standing.is_up = is_up;
         }
     }
 
     /// Sets the reduced cost of a slack, or the multiplier of a line.
     pub fn set_price(&mut self, member: Member, price: i64) {
-        if let Some(standing) = self.standing_mut(member) {
+        if let Some(standing) = self.standing_to_change(member) {
             standing.price = price;
         }
     }

@@ -23,7 +23,7 @@ use Rattle.pesp_judges.specs.declared.refusal.Verdict.{Verdict}
 use Rattle.pesp_judges.specs.Faults.{IsVerdict}
 use Rattle.pesp_judges.proofs.Faults.{accepts_valid}
 use Rattle.pesp_check.specs.declared.stage.Stage.{Stage}
-use Rattle.pesp_check.specs.declared.check_fault.CheckFault.TheVariants.{Read}
+use Rattle.pesp_check.specs.declared.fault.CheckFault.TheVariants.{Read}
 use Rattle.pesp_check.specs.CheckFaults.{fault_of}
 use Rattle.pesp_check.specs.Texts.{ChecksText, Faults}
 use Rattle.pesp_check.specs.Judging.{Kept, JudgedAt, items_left}

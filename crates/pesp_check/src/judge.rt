@@ -12,18 +12,18 @@ ghost use Rattle.pesp_cert_items.specs.Lent.{item_said, listed, pairs_left_in, r
 ghost use Rattle.pesp_problem.specs.Nets.{AreZeros, AreSmallCounts};
 ghost use Rattle.pesp_truth.specs.Limits.{weights_keep_limits};
 ghost use Rattle.pesp_leaves.specs.Taken.{HaveRows};
-ghost use Rattle.pesp_whole_check.specs.Inner.{IsHeadFault};
-ghost use Rattle.pesp_whole_check.specs.Rooms.{FitsRoom};
+ghost use Rattle.pesp_check.specs.Rooms.{FitsRoom};
 ghost use Rattle.pesp_judges.specs.SaidLines.{KeepsSaidLimits};
 ghost use Rattle.pesp_judges.specs.Faults.{IsVerdict};
 ghost use Rattle.pesp_check.specs.Said.{pairs_of, tree_line};
 ghost use Rattle.pesp_check.specs.Items.{KeepsItemLimits, begins_later, begins_tree, ends_lemma, is_mark};
 ghost use Rattle.pesp_check.specs.declared.stage.Stage.TheVariants as stages;
-ghost use Rattle.pesp_check.specs.Judging.{JudgedAt, items_left, is_front, is_before_tree};
+ghost use Rattle.pesp_check.specs.Judging.{JudgedAt, items_left, IsHeadFault, is_front, is_before_tree};
 
 use crate::elements::{PairsLeft, RowsLeft};
+use crate::front_walks::{MarksDraft, front_of, note_line, walks_fault};
 use crate::lemma_lines::{add_fact, ends_lemma, fact_in, show_line};
-use crate::marks_draft::{MarksDraft, front_of, note_line};
+use crate::room::{Room, claim_over, room_for};
 use crate::said_line::said_line;
 use crate::stage::Stage;
 use pesp_cert_items::{Item, LinePairs, SignedRows, TextLine};
@@ -33,7 +33,6 @@ use pesp_judges::{
 };
 use pesp_problem::{Instance, MOST_CYCLES, Memory};
 use pesp_truth::{Answer, Lemma, Marks};
-use pesp_whole_check::{Room, claim_over, room_for, walks_fault};
 use std::alloc::{AllocError, Global};
 use std::mem::replace;
 

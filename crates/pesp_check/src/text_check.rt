@@ -9,7 +9,7 @@ ghost use Rattle.pesp_check.specs.Judging.{JudgedAt, items_left};
 ghost use Rattle.pesp_check.specs.Texts.{ChecksText, Faults};
 ghost use Rattle.pesp_check.specs.Views.{kept};
 
-use crate::check_fault::CheckFault;
+use crate::fault::CheckFault;
 use crate::judge::Judge;
 use pesp_cert::Versions;
 use pesp_cert_items::ItemReader;

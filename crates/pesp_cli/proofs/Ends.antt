@@ -1,7 +1,7 @@
 -- How a run without a status of its own ends.
-use Rattle.std.proofs.Common.{◌≡◌, ◌⊎◌, inl, inr, ℕ, List, refl, ap, Ok, Err, Some, None}
-use Rattle.std.specs.Prelude.{Result, Option, MatchResult, OnOk, IfOk, IfErr, ⊤, ◌≢◌}
-use Rattle.pesp_check.specs.Devices.{Device}
+use Rattle.std.proofs.Common.{◌≡◌, ◌⊎◌, inl, inr, ℕ, ℤ, List, refl, ap, Ok, Err, Some, None}
+use Rattle.std.specs.Prelude.{Result, Option, is_some, MatchResult, OnOk, IfOk, IfErr, ⊤, ◌≢◌}
+use Rattle.pesp_check_run.specs.Devices.{Device}
 use Rattle.pesp_runs.specs.declared.fault.Fault.{Fault}
 use Rattle.pesp_runs.specs.declared.fault.Fault.TheVariants.{Write}
 use Rattle.pesp_runs.specs.Bases.{ReadsSharpBase}
@@ -9,13 +9,16 @@ use Rattle.pesp_runs.specs.Runs.{OverBase}
 use Rattle.pesp_tasks.specs.Resuming.{WritesGoneOn}
 use Rattle.pesp_tasks.proofs.Resumptions.{gone_on_weaker}
 use Rattle.pesp_judges.specs.declared.refusal.Verdict.{Verdict}
-use Rattle.pesp_check.specs.Verdicts.{verdict_status}
-use Rattle.pesp_check.specs.declared.fault.VerdictFault.{VerdictFault}
-use Rattle.pesp_check.specs.declared.fault.VerdictFault.TheVariants.{Write as OfWrite}
+use Rattle.pesp_check_run.specs.Verdicts.{verdict_status}
+use Rattle.pesp_check_run.specs.declared.fault.VerdictFault.{VerdictFault}
+use Rattle.pesp_check_run.specs.declared.fault.VerdictFault.TheVariants.{Write as OfWrite}
 use Rattle.pesp_runs.specs.FaultLines.{verdict_fault}
+use Rattle.pesp_report.specs.declared.names.Names.{Names}
+use Rattle.pesp_report.specs.Naming.{name_of, naming_of}
 use Rattle.pesp_report_run.specs.Naming.{NamesCause}
 use Rattle.pesp_request.specs.declared.request.OfWorks.{OfWorks}
 use Rattle.pesp_request.specs.declared.request.OfWorks.TheVariants.{Graft, GraftSharp}
+use Rattle.pesp_cli.specs.Answers.{WithNamesOf}
 use Rattle.pesp_cli.specs.Stops.{OrNoNames, OrNamesOf, StopsWorks}
 
 -- the run's clause, and the status 0
@@ -68,6 +71,14 @@ without_names fault C (inr (inr h)) = absurd h
 pub unless_named : {A : Type 0} (names : Option A) (fault : Fault) (C : Type 0) → OrNamesOf names fault ⊥ → OrNamesOf names fault C
 unless_named None fault C h = absurd h
 unless_named (Some file) fault C h = without_names fault C h
+
+-- what holds with the names that were told, where a file with some is named
+pub as_named : {A : Type 0} (file : Option A) (told : Option Names) (Holds : Option (ℤ → List ℕ) → Type 0)
+    → is_some told ≡ is_some file → Holds (naming_of told) → WithNamesOf file Holds
+as_named None None Holds given holds = holds
+as_named None (Some names) Holds given holds = cc
+as_named (Some file) None Holds given holds = cc
+as_named (Some file) (Some names) Holds given holds = (name_of names, holds)
 
 -- what holds without names
 pub with_names : {A : Type 0} (names : Option A) (fault : Fault) (C : Type 0) → C → OrNamesOf names fault C

@@ -7,11 +7,11 @@ use Rattle.pesp_report_run.specs.declared.fix_refusal.FixRefusal.{FixRefusal}
 use Rattle.pesp_timetable.specs.Texts.{IsTimetableText}
 use Rattle.pesp_judges.specs.declared.refusal.Verdict.{Verdict}
 use Rattle.pesp_cert_lines.specs.declared.versions.Versions.TheVariants.{Plain, All}
-use Rattle.pesp_check.specs.Checking.{Checks}
+use Rattle.pesp_check_run.specs.Checking.{Checks}
 use Rattle.pesp_plan.specs.Planning.{WritesPlan, KeepsSome, KeepsSomeOn}
 use Rattle.pesp_old_times.specs.Beginning.{ReadsOld, FromStanding}
-use Rattle.pesp_check.specs.Devices.{Device}
-use Rattle.pesp_check.specs.Verdicts.{verdict_status}
+use Rattle.pesp_check_run.specs.Devices.{Device}
+use Rattle.pesp_check_run.specs.Verdicts.{verdict_status}
 use Rattle.pesp_runs.specs.Reading.{HasBase, ReadsBase, ReadsTimetable, GivesTimetable}
 use Rattle.pesp_runs.specs.FaultLines.{fault_line, exit_status}
 use Rattle.pesp_runs.specs.declared.fault.Fault.{Fault}
@@ -30,7 +30,7 @@ use Rattle.pesp_report_run.specs.Fixing.{WritesFixed}
 use Rattle.pesp_report_run.specs.Runs.{TellsConflict}
 use Rattle.pesp_report_run.specs.Told.{told_text, told_status}
 use Rattle.pesp_report_run.specs.declared.told.Told.{Told}
-use Rattle.pesp_check.specs.Lines.{Gets, GetsLine}
+use Rattle.pesp_check_run.specs.Lines.{Gets, GetsLine}
 use Rattle.pesp_request.specs.declared.request.OfInstance.{OfInstance}
 use Rattle.pesp_request.specs.declared.request.OfInstance.TheVariants.{Solve, SolveSharp, Plan, Conflict}
 use Rattle.pesp_request.specs.declared.request.OfCertificate.{OfCertificate}
@@ -53,22 +53,24 @@ TellsFault teller fault status =
 
 -- ---- requests
 
--- what the program does for a search that writes this, from times that are read so from a file where one is named, which are some
--- text
+-- what the program does for a search that writes this. Where a file is named, its times are read so, and are some text
 abbrev pub AnswersSearch : {A : Type 0} → (Option (List ℕ) → Option (List ℕ) → Pesp → List ℕ → Type 0)
     → (Pesp → List ℕ → (List ℕ → Type 0) → Type 0) → Option A → ℕ → Device → Device → ℕ → Type 0
 AnswersSearch Reads Writes None period reader writer status = Alone Writes reader.old reader.new period (Gets writer) × (status ≡ 0)
 AnswersSearch Reads Writes (Some file) period reader writer status =
     ((times : Device) × OverBase Reads reader.old reader.new times.old times.new period (λ p times. Writes p times (Gets writer))) × (status ≡ 0)
 
--- what it does for a conflict, with what events are called where a file is named
+-- this holds without names of events, or with some where a file is named
+abbrev pub WithNamesOf : {A : Type 0} → Option A → (Option (ℤ → List ℕ) → Type 0) → Type 0
+WithNamesOf None Holds = Holds None
+WithNamesOf (Some file) Holds = (name : ℤ → List ℕ) × Holds (Some name)
+
+-- what it does for a conflict, with names where a file is named
 abbrev pub AnswersConflict : {A : Type 0} → Option A → ℕ → ℕ → Device → Device → Device → Type 0 → ℕ → Type 0
-AnswersConflict None steps period reader writer teller silent status =
-    (told : Told) × TellsConflict reader.old reader.new period steps None told (Gets writer) silent
-    × GetsLine teller (told_text told) × (status ≡ told_status told)
-AnswersConflict (Some file) steps period reader writer teller silent status =
-    (name : ℤ → List ℕ) × (told : Told) × TellsConflict reader.old reader.new period steps (Some name) told (Gets writer) silent
-    × GetsLine teller (told_text told) × (status ≡ told_status told)
+AnswersConflict names steps period reader writer teller silent status =
+    WithNamesOf names (λ naming. (told : Told)
+    × TellsConflict reader.old reader.new period steps naming told (Gets writer) silent
+    × GetsLine teller (told_text told) × (status ≡ told_status told))
 
 -- what it does for a plan that is kept in a file: from what stands there, which is some text; or from old times in a file where
 -- one is named
@@ -128,7 +130,7 @@ AnswersLeaves (WorkSharp steps until jobs) period instance reader writer status 
     OverBase ReadsSharpBase instance.old instance.new reader.old reader.new period
     (λ p base. WritesSharpWork p base jobs.items steps until (Gets writer)) × (status ≡ 0)
 
--- what it does for a report, with what events are called where a file is named
+-- what it does for a report, with names where a file is named
 abbrev pub AnswersReport : {A : Type 0} → Option A → ℕ → Device → Device → Device → ℕ → Type 0
 AnswersReport None period instance reader writer status =
     ReadsTimetable instance.old instance.new reader.old reader.new period
@@ -144,16 +146,13 @@ abbrev pub violations_status : ℕ → ℕ
 violations_status zero = 0
 violations_status (suc n) = 1
 
--- what it does to list violated activities, with what events are called where a file is named
+-- what it does to list violated activities, with names where a file is named
 abbrev pub AnswersViolations : {A : Type 0} → Option A → ℕ → Device → Device → Device → ℕ → Type 0
-AnswersViolations None period instance reader writer status =
-    (count : ℕ) × ReadsForEvents instance.old instance.new reader.old reader.new period
-    (λ p times. WritesViolations p times None count (Gets writer))
-    × (status ≡ violations_status count)
-AnswersViolations (Some file) period instance reader writer status =
-    (name : ℤ → List ℕ) × (count : ℕ) × ReadsForEvents instance.old instance.new reader.old reader.new period
-    (λ p times. WritesViolations p times (Some name) count (Gets writer))
-    × (status ≡ violations_status count)
+AnswersViolations names period instance reader writer status =
+    WithNamesOf names (λ naming. (count : ℕ)
+    × ReadsForEvents instance.old instance.new reader.old reader.new period
+    (λ p times. WritesViolations p times naming count (Gets writer))
+    × (status ≡ violations_status count))
 
 -- 2 where what is wanted can't be had
 abbrev pub fix_status : Option FixRefusal → ℕ

@@ -6,10 +6,10 @@ use Rattle.pesp_timetable.specs.Texts.{IsTimetableText}
 use Rattle.pesp_problem.specs.Timetables.{Pesp}
 use Rattle.pesp_truth.specs.Certificates.{Content}
 use Rattle.pesp_cert.specs.Fronted.{Fronted}
-use Rattle.pesp_check.specs.Devices.{Device}
+use Rattle.pesp_check_run.specs.Devices.{Device}
 use Rattle.pesp_cert_lines.specs.declared.versions.Versions.TheVariants.{Plain, All}
-use Rattle.pesp_check.specs.Checking.{CheckCause}
-use Rattle.pesp_check.specs.declared.fault.VerdictFault.{VerdictFault}
+use Rattle.pesp_check_run.specs.Checking.{CheckCause}
+use Rattle.pesp_check_run.specs.declared.fault.VerdictFault.{VerdictFault}
 use Rattle.pesp_plan.specs.Planning.{WritesPlan, KeepsSome}
 use Rattle.pesp_old_times.specs.Beginning.{ReadsOld, OldCause, FromStandingCause}
 use Rattle.pesp_runs.specs.Reading.{ReadsBase, GivesTimetable}
@@ -30,6 +30,7 @@ use Rattle.pesp_report_run.specs.Reporting.{SheetCause}
 use Rattle.pesp_report_run.specs.Violating.{ViolationsCause}
 use Rattle.pesp_report_run.specs.Fixing.{FixCause}
 use Rattle.pesp_report_run.specs.Runs.{ConflictCause}
+use Rattle.pesp_cli.specs.Answers.{WithNamesOf}
 use Rattle.pesp_request.specs.declared.request.OfInstance.{OfInstance}
 use Rattle.pesp_request.specs.declared.request.OfInstance.TheVariants.{Solve, SolveSharp, Plan, Conflict}
 use Rattle.pesp_request.specs.declared.request.OfCertificate.{OfCertificate}
@@ -57,7 +58,7 @@ abbrev pub OrNamesOf : {A : Type 0} → Option A → Fault → Type 0 → Type 0
 OrNamesOf None fault Cause = Cause
 OrNamesOf (Some file) fault Cause = OrNoNames fault Cause
 
--- a search that writes this and stops for that, from times that are read and refused so in a file where one is named
+-- a search that writes this and stops for that. Where a file is named, its times are read and refused so
 abbrev pub StopsSearch : {A : Type 0} → (Option (List ℕ) → Option (List ℕ) → Pesp → List ℕ → Type 0) → (Fault → Device → Pesp → Type 0)
     → (Pesp → List ℕ → Fault → Type 0 → Type 0) → (Pesp → List ℕ → (List ℕ → Type 0) → Type 0)
     → Option A → Fault → ℕ → Device → Device → Type 0
@@ -76,11 +77,10 @@ StopsSharp fault period instance reader writer uncalled Writes =
     OverBaseCause ReadsSharpBase SharpBaseCause fault instance reader writer period uncalled
     (λ p base fault cut. OutCause fault cut) Writes
 
--- a conflict, with what events are called where a file is named
+-- a conflict, with names where a file is named
 abbrev pub StopsConflict : {A : Type 0} → Option A → Fault → ℕ → ℕ → Device → Device → Type 0
-StopsConflict None fault steps period reader writer = ConflictCause fault reader writer period steps None
-StopsConflict (Some file) fault steps period reader writer =
-    OrNoNames fault ((name : ℤ → List ℕ) × ConflictCause fault reader writer period steps (Some name))
+StopsConflict names fault steps period reader writer =
+    OrNamesOf names fault (WithNamesOf names (λ naming. ConflictCause fault reader writer period steps naming))
 
 -- a plan that is kept in a file, which can't be had, or can't be written
 abbrev pub StopsKept : {A : Type 0} → Option A → Fault → ℕ → Device → Device → Type 0
@@ -136,19 +136,17 @@ StopsLeaves (WorkSharp steps until jobs) fault period instance reader writer unc
     (λ p base fault cut. SharpJobCause fault p base jobs.items ⊎ OutCause fault cut)
     (λ p base Gets. WritesSharpWork p base jobs.items steps until Gets)
 
--- a report, with what events are called where a file is named
+-- a report, with names where a file is named
 abbrev pub StopsReport : {A : Type 0} → Option A → Fault → ℕ → Device → Device → Device → Type 0 → Type 0
 StopsReport None fault period instance reader writer uncalled = SheetCause fault instance reader writer period uncalled IsReport
 StopsReport (Some file) fault period instance reader writer uncalled =
     OrNoNames fault ((name : ℤ → List ℕ)
     × SheetCause fault instance reader writer period uncalled (λ p times text. IsNamedReport p times name text))
 
--- a list of violated activities, with what events are called where a file is named
+-- a list of violated activities, with names where a file is named
 abbrev pub StopsViolations : {A : Type 0} → Option A → Fault → ℕ → Device → Device → Device → Type 0 → Type 0
-StopsViolations None fault period instance reader writer uncalled =
-    ViolationsCause fault instance reader writer period uncalled None
-StopsViolations (Some file) fault period instance reader writer uncalled =
-    OrNoNames fault ((name : ℤ → List ℕ) × ViolationsCause fault instance reader writer period uncalled (Some name))
+StopsViolations names fault period instance reader writer uncalled =
+    OrNamesOf names fault (WithNamesOf names (λ naming. ViolationsCause fault instance reader writer period uncalled naming))
 
 -- what is asked of times
 abbrev pub StopsTimes : OfTimes → Fault → ℕ → Device → Device → Device → Type 0 → Type 0

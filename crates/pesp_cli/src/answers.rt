@@ -1,11 +1,11 @@
 //! What the program does for each request, over any readers and writers.
 
-ghost use Rattle.std.specs.Prelude.{◌≡◌, ◌≢◌, ◌<◌, ◌≤◌, ◌^◌, Ok, Err, IfOk, IfErr, MatchResult};
+ghost use Rattle.std.specs.Prelude.{◌≡◌, ◌≢◌, ◌<◌, ◌≤◌, ◌^◌, Ok, Err, is_some, IfOk, IfErr, MatchResult};
 ghost use Rattle.std.specs.Io.KnownBytes.{Appends};
 ghost use Rattle.pesp_problem.specs.declared.limits.TheConstants.{MOST_STEPS};
 ghost use Rattle.pesp_stream.specs.Counts.{FewerThan};
-ghost use Rattle.pesp_check.specs.Devices.{over};
-ghost use Rattle.pesp_check.specs.Verdicts.{verdict_status};
+ghost use Rattle.pesp_check_run.specs.Devices.{over};
+ghost use Rattle.pesp_check_run.specs.Verdicts.{verdict_status};
 ghost use Rattle.pesp_runs.specs.FaultLines.{verdict_fault};
 ghost use Rattle.pesp_runs.specs.Runs.{OverBase, OverBaseCause};
 ghost use Rattle.pesp_request.specs.Requests.{InstanceWithin, CertificateWithin, LeavesWithin};
@@ -17,13 +17,13 @@ use crate::headed::Headed;
 use crate::input::{Beginning, warn_of_period};
 use crate::plans::of_plan;
 use crate::telling::{tell_sums, told_conflict, told_fix};
-use pesp_check::{VerdictFault, run_check, run_check_sharp, status_of_verdict};
+use pesp_check_run::{VerdictFault, run_check, run_check_sharp, status_of_verdict};
 use pesp_judges::Verdict;
 use pesp_plan::{Lockable, Teller, Watch};
 use pesp_report::Names;
 use pesp_report_run::{
-    Diagrams, HtmlPage, NamedReport, Picture, Report, Timetable, Wanted, read_whole_names,
-    run_conflict, run_fix, run_sheet, run_violations, status_of_told,
+    NamedReport, Report, Timetable, View, Wanted, read_whole_names, run_conflict, run_fix,
+    run_sheet, run_violations, status_of_told,
 };
 use pesp_request::{OfCertificate, OfInstance, OfLeaves, OfTimes, OfWorks};
 use pesp_runs::{
@@ -99,7 +99,7 @@ pub(crate) fn search<R: AllocGlobal + Eprint + Files, I: Source, W: Sink, S: Sea
     }
 }
 
-/// Looks for a conflict in the instance that the reader gives, and tells it with the names in a file where one is named.
+/// Looks for a conflict in the reader's instance. Tells it with names where a file is named.
 fn conflict<R: AllocGlobal + Eprint + Files, I: Source, W: Sink, E: Sink, F: Sharpener + Drop>(
     rt: &R,
     reader: &mut I,
@@ -130,35 +130,23 @@ fn conflict<R: AllocGlobal + Eprint + Files, I: Source, W: Sink, E: Sink, F: Sha
     ensures silent { IfErr result (λ fault. fault ≢ Fault.Write → writer.new ≡ writer.old) }
 {
     let alloc = rt.alloc();
+    let names = names_of(rt, names)?;
     let mut sums = String::new(alloc);
-    match names {
-        None => {
-            let finder = &mut sharpener;
-            let told = run_conflict(
-                alloc, reader, writer, period, steps, None, &mut sums, finder,
-            )?;
-            told_conflict(teller, told);
-            Ok(status_of_told(told))
-        }
-        Some(file) => {
-            let names = names_in(rt, file)?;
-            let run = run_conflict(
-                alloc,
-                reader,
-                writer,
-                period,
-                steps,
-                Some(&names),
-                &mut sums,
-                &mut sharpener,
-            );
-            drop(names);
-            let told = run?;
-            told_conflict(teller, told);
-            tell_sums(rt, &sums);
-            Ok(status_of_told(told))
-        }
-    }
+    let run = run_conflict(
+        alloc,
+        reader,
+        writer,
+        period,
+        steps,
+        names.as_ref(),
+        &mut sums,
+        &mut sharpener,
+    );
+    drop(names);
+    let told = run?;
+    told_conflict(teller, told);
+    tell_sums(rt, &sums);
+    Ok(status_of_told(told))
 }
 
 /// Does what is asked of the instance that the reader gives.
@@ -407,7 +395,7 @@ pub(crate) fn of_leaves<R: AllocGlobal, I: Source, S: Source, W: Sink, F: Sharpe
     }
 }
 
-/// Lists the activities that the times of the reader violate, with the names in a file where one is named.
+/// Lists activities that the reader's times violate, with names where a file is named.
 fn violated<R: AllocGlobal + Files, I: Source, S: Source, W: Sink>(
     rt: &R,
     instance: &mut I,
@@ -437,22 +425,14 @@ fn violated<R: AllocGlobal + Files, I: Source, S: Source, W: Sink>(
     ensures silent { IfErr result (λ fault. fault ≢ Fault.Write → writer.new ≡ writer.old) }
 {
     let alloc = rt.alloc();
-    match names {
-        None => {
-            let count = run_violations(alloc, instance, reader, writer, period, None)?;
-            Ok(status_of_violations(count))
-        }
-        Some(file) => {
-            let names = names_in(rt, file)?;
-            let run = run_violations(alloc, instance, reader, writer, period, Some(&names));
-            drop(names);
-            let count = run?;
-            Ok(status_of_violations(count))
-        }
-    }
+    let told = names_of(rt, names)?;
+    let run = run_violations(alloc, instance, reader, writer, period, told.as_ref());
+    drop(told);
+    let count = run?;
+    Ok(status_of_violations(count))
 }
 
-/// Writes the report of the times of the reader, with the names in a file where one is named.
+/// Writes the report of the reader's times, with names where a file is named.
 #[tactic(auto, using(crate::proofs::Ends::finished))]
 fn reported<R: AllocGlobal + Files, I: Source, S: Source, W: Sink>(
     rt: &R,
@@ -493,7 +473,7 @@ fn reported<R: AllocGlobal + Files, I: Source, S: Source, W: Sink>(
     }
 }
 
-/// Fixes what is wanted in the instance, with the names in a file where one is named; tells on standard error why that can't be had.
+/// Fixes what is wanted in the instance, with names where a file is named. Tells on standard error why that can't be had.
 fn fix<R: AllocGlobal + Eprint + Files, I: Source, S: Source, W: Sink>(
     rt: &R,
     instance: &mut I,
@@ -576,13 +556,13 @@ pub(crate) fn of_times<R: AllocGlobal + Eprint + Files, I: Source, S: Source, W:
         OfTimes::Picture { rows, names: file } => {
             let told = names_of(rt, file)?;
             let names = told.as_ref();
-            let sheet = Picture { rows, names };
+            let sheet = View::Picture { rows, names };
             done(run_sheet(alloc, &sheet, instance, reader, writer, period))
         }
         OfTimes::Diagrams { names: file, along } => {
             let told = names_in(rt, file)?;
             let names = &told;
-            let sheet = Diagrams { names, along };
+            let sheet = View::Diagrams { names, along };
             done(run_sheet(alloc, &sheet, instance, reader, writer, period))
         }
         OfTimes::Timetable { names: file, json } => {
@@ -601,7 +581,8 @@ pub(crate) fn of_times<R: AllocGlobal + Eprint + Files, I: Source, S: Source, W:
         }
         OfTimes::Page { names: file } => {
             let told = names_of(rt, file)?;
-            let sheet = HtmlPage(told.as_ref());
+            let names = told.as_ref();
+            let sheet = View::Page { names };
             done(run_sheet(alloc, &sheet, instance, reader, writer, period))
         }
     }
@@ -714,7 +695,8 @@ fn names_in<R: AllocGlobal + Files>(rt: &R, file: &str) -> Result<Names, Fault>
 
 /// The names that a file tells, where one is named.
 fn names_of<R: AllocGlobal + Files>(rt: &R, file: Option<&str>) -> Result<Option<Names>, Fault>
-    ensures { IfErr result (λ fault. OrNamesOf file.entry fault ⊥) }
+    ensures given { IfOk result (λ names. is_some names ≡ is_some file.entry) }
+    ensures stopped { IfErr result (λ fault. OrNamesOf file.entry fault ⊥) }
 {
     match file {
         None => Ok(None),

@@ -2,7 +2,7 @@
 
 ghost use Rattle.std.specs.Prelude.{◌≡◌, ◌≢◌, ◌⊎◌, ◌<◌, ◌^◌, None, IfOk, IfErr, IfSome};
 ghost use Rattle.pesp_stream.specs.Counts.{FewerThan};
-ghost use Rattle.pesp_check.specs.Devices.{over};
+ghost use Rattle.pesp_check_run.specs.Devices.{over};
 ghost use Rattle.pesp_cli.specs.Answers.{AnswersPlan, AnswersKept};
 ghost use Rattle.pesp_cli.specs.Stops.{StopsPlan, StopsKept};
 

@@ -2,12 +2,12 @@
 
 ghost use Rattle.std.specs.Prelude.{◌≡◌, ◌<◌, ◌^◌};
 ghost use Rattle.pesp_stream.specs.Counts.{FewerThan};
-ghost use Rattle.pesp_check.specs.Devices.{over};
+ghost use Rattle.pesp_check_run.specs.Devices.{over};
 ghost use Rattle.pesp_report_run.specs.Told.{told_text};
-ghost use Rattle.pesp_check.specs.Lines.{GetsLine};
+ghost use Rattle.pesp_check_run.specs.Lines.{GetsLine};
 ghost use Rattle.pesp_cli.specs.Answers.{TellsFault, fix_status};
 
-use pesp_check::tell;
+use pesp_check_run::tell;
 use pesp_report_run::{FixRefusal, Told};
 use pesp_runs::{Fault, status_of};
 use pesp_stream::{Bytes, Sink};

@@ -1,4 +1,4 @@
-//! Spanning forests that are drawn at random over rows with slacks, their cuts, the clusters that the first rows of a forest
+//! Spanning forests that are drawn at random over rows with slacks, and their cuts. The clusters that the first rows of a forest
 //! join, and induced forests of these. A network with its events and rows in an order that doesn't depend on theirs. Nothing is
 //! promised of them but that they are found safely.
 #![tactic(auto)]

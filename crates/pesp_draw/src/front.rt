@@ -2,7 +2,7 @@
 
 use std::alloc::AllocError;
 
-/// What stands at the beginning: what is shown, of which period and cost, the style, and what colours and marks mean.
+/// What stands at the beginning: what is shown, and of which period and cost. The style, and what colours and marks mean.
 #[derive(Clone, Copy)]
 pub struct PictureFront<'a> {
     pub shown: &'a str,

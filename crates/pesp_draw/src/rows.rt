@@ -10,7 +10,8 @@ use std::alloc::AllocError;
 /// How many pixels a row is high.
 pub const ROW: u32 = 18;
 
-/// Where the rows of activities begin and end, where those of events begin, and the picture's end, in pixels from the top.
+/// Where the rows of activities begin and end, and where those of events begin. Where the picture ends. All are in pixels from the
+/// top.
 #[derive(Clone, Copy)]
 pub struct RowHeights {
     pub activities: u32,

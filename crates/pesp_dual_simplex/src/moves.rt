@@ -14,7 +14,7 @@ fn add_at(numbers: &mut [i64], place: u32, number: i64) {
     }
 }
 
-/// Takes what a slack that moves adds to tight lines away from what these have to be made up for.
+/// A slack that moves adds to tight lines. Takes that away from what these need.
 fn spread(column: &Column, sums: &[Standing], needs: &mut [i64], step: i64) {
     for entry in &column.entries {
         if let Some(sum) = sums.get(entry.line as usize)
@@ -63,7 +63,7 @@ fn move_slack(state: &mut State, column: &Column, number: u32, step: i64) {
 }
 
 impl Simplex {
-    /// The coefficient of a slack at an end, or of a tight line, in the row of the tableau.
+    /// The coefficient of a slack at an end, or of a tight line. It is in the row of the tableau.
     pub(crate) fn coefficient_of(&self, member: Member) -> i64 {
         match member {
             Member::Slack(number) => self.alpha.get(number),

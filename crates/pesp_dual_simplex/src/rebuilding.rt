@@ -17,7 +17,7 @@ struct EnteringSlack {
 }
 
 impl EnteringSlack {
-    /// Whether it is in fewer lines than the best so far, or in as many with a greater coefficient.
+    /// Whether it is in fewer lines than the best so far. In as many, whether its coefficient is greater.
     fn is_better(&self, best: &Option<EnteringSlack>) -> bool {
         match best {
             Some(best) => {
@@ -51,7 +51,7 @@ fn pivot_of(order: &Order, slack: u32, size: i64, least: i64) -> Option<Entering
     })
 }
 
-/// The open slack that comes in beside the line that was weighed: of great coefficient, in few lines (Markowitz 1957).
+/// The open slack that comes in beside the line that was weighed. It is of great coefficient, in few lines (Markowitz 1957).
 fn choose_pivot(order: &Order, alpha: &Sparse) -> Option<u32> {
     let least = (greatest_open(order, alpha) >> 2).max(LEAST_PIVOT);
     let mut best: Option<EnteringSlack> = None;

@@ -39,8 +39,8 @@ pub fn said_by(tree_line: &TreeLine) -> SaidLine<&[Pair]>
     }
 }
 
-/// The first fault of a tree at the root; its lines begin with the line `first`. The flows, one a row, are 0 before; behind a
-/// front there are as many rates.
+/// The first fault of a tree at the root. Its lines begin with the line `first`. The flows, one a row, are 0 before. Behind a front
+/// there are as many rates.
 pub fn judge_tree(
     alloc: Global,
     checker: &Checker<'_>,

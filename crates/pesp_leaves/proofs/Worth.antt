@@ -133,7 +133,7 @@ module _ (n : Net) (table : List (List SignedRow)) (node : Node) (m : Multiplier
   lowers_are = sum_below-same (length n.arcs) _ (λ i. flow table m.pairs i *ℤ (arc_at n.arcs i).lower)
       (λ i l. ap (λ z. z *ℤ (arc_at n.arcs i).lower) (are.made_are i l))
 
-  -- the period times the offsets less the lower bounds, and the gains, the least sums and the rows
+  -- the period times the offsets less the lower bounds. The gains, the least sums and the rows are added
   pub value_is : (z gains floors : ℤ) → offset_part n table node m.pairs ≡ Some z
       → gains ≡ over_multiples m.multiples (λ walk. pos (least_gain n node.slacks walk))
       → floors ≡ over_lemmas facts (λ fact. fact.least)

@@ -1,4 +1,4 @@
--- What the lemmas of pairs add to a leaf, and what they take of each row.
+-- What lemmas of pairs add to a leaf, and what they take of each row.
 use Rattle.std.specs.Prelude.{ℕ, ◌<◌, ◌≤◌, ◌+◌, ◌*◌, ◌^◌, List, length, ℤ, unsigned_abs, All}
 use Rattle.pesp_problem.specs.declared.limits.TheConstants.{MOST_MULTIPLIER}
 use Rattle.pesp_problem.specs.declared.pair.Pair.{Pair}
@@ -20,7 +20,7 @@ taken_of others facts pairs i = taken (of_lemmas others facts pairs) i
 abbrev pub HaveRows : ℕ → List Lemma → Type 0
 HaveRows rows facts = All (λ fact. All (λ pair. Names rows pair.cycle) fact.weights) facts
 
--- flows that a leaf can have, where what so many lemmas take was added to them
+-- flows of a leaf, with what so many lemmas take added to them
 abbrev pub AreFlowsWith : ℕ → List ℤ → Type 0
 AreFlowsWith lemmas flows = (i : ℕ) → i < length flows → unsigned_abs (number_at flows i) ≤ 10 ^ 24 + lemmas * 10 ^ 24
 

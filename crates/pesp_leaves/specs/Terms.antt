@@ -1,4 +1,4 @@
--- What the rows add to the value of a leaf under any weights, by their flows and their rates.
+-- What rows add to a leaf's value under any weights, by flows and rates.
 use Rattle.std.specs.Prelude.{ℕ, List, length, ℤ, pos, ◌-ℤ◌, ◌*ℤ◌, Bool, if◌then◌else◌}
 use Rattle.pesp_problem.specs.declared.arc.Arc.{Arc}
 use Rattle.pesp_problem.specs.Sums.{sum_below}

@@ -53,7 +53,7 @@ fn add_weights(weights: &[Pair], mult: i64, flows: &mut [i128])
 }
 
 /// Adds the lemma that a pair names to the flows, under the pair's multiplier. Gives what its sum is at least, times the
-/// multiplier; nothing for a pair that names a cycle or a walk, of which there are so many.
+/// multiplier. That is 0 for a pair that names a cycle or a walk. There are `others` of these.
 fn add_lemma(others: usize, facts: &[Lemma], pair: Pair, flows: &mut [i128]) -> i128
     requires few { others ≤ 200000 }
     requires named { IsNamed others (length facts.now) pair }

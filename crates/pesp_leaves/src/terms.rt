@@ -1,4 +1,4 @@
-//! What the rows of a leaf add to its value, by their weights, flows and rates.
+//! What a leaf's rows add to its value, by their weights, flows and rates.
 
 ghost use Rattle.std.specs.Prelude.{◌≡◌, ℕ, ◌*◌, ◌^◌, ◌<◌, ◌≤◌, length, pos, ◌-ℤ◌, ◌*ℤ◌, unsigned_abs, if◌then◌else◌};
 ghost use Rattle.pesp_problem.specs.declared.limits.TheConstants.{MOST_LOWER, MOST_MULTIPLIER, MOST_PERIOD, MOST_ROWS};
@@ -35,7 +35,7 @@ fn left_at(scaled: i128, flow: i128) -> i128
     minus(scaled, flow)
 }
 
-/// What a slack at one end of its range costs beyond the flow and the gains.
+/// What a slack at one end of its range costs beyond flow and gains.
 fn excess(left: i128, slack: u32, rate: i128, width: i128) -> i128
     requires left { unsigned_abs left ≤ 11 * 10 ^ 28 }
     requires slack { slack ≤ MOST_PERIOD }

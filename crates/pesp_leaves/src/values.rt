@@ -69,13 +69,16 @@ fn value_behind<P: Elements<Pair>>(
     };
     let offsets = offset_sum(checker, ranges, of_cycles)?;
     add_flows(flows, checker.table, of_cycles);
-    let lowers = lower_sum(shown.arcs, flows);
+    let lower_bounds = lower_sum(shown.arcs, flows);
     clear(rates);
     let gains = add_walks(checker, shown, &ranges.slacks, others, rates);
     let floors = add_lemmas(cycles_and_walks, shown.facts, pairs, flows);
     let rows = rows_sum(&ranges.slacks, shown.weights, weighted, scale, flows, rates);
     flows.fill(0);
-    Some(plus(plus(plus(minus(offsets, lowers), gains), floors), rows))
+    Some(plus(
+        plus(plus(minus(offsets, lower_bounds), gains), floors),
+        rows,
+    ))
 }
 
 /// The scale of a leaf that names more than cycles, or of one that doesn't.

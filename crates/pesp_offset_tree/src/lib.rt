@@ -1,5 +1,5 @@
-//! A tree over the offsets that are left to cycles: its knots, the cuts that there are at a point, what cuts have gained so far,
-//! which of several gains most on trial, and what its leaves and lines tell. Nothing is promised of it but that all is found safely.
+//! A tree over the offsets that are left to cycles. Its knots, the cuts at a point, and what cuts have gained so far. Which of
+//! several gains most on trial, and what its leaves and lines tell. Nothing is promised of it but that all is found safely.
 #![tactic(auto)]
 
 mod cuts;

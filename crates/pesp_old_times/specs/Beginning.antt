@@ -7,7 +7,7 @@ use Rattle.pesp_old_times.specs.OldTimes.{entries_from_text}
 use Rattle.pesp_cert_lines.specs.declared.versions.Versions.TheVariants.{All}
 use Rattle.pesp_cert.specs.Fronted.{Fronted, IsFrontedText}
 use Rattle.pesp_cert.specs.Refusals.{items_of_text}
-use Rattle.pesp_check.specs.Devices.{Device, HasFailed}
+use Rattle.pesp_check_run.specs.Devices.{Device, HasFailed}
 use Rattle.pesp_runs.specs.Reading.{ReadsInstance, ReadsNext}
 use Rattle.pesp_runs.specs.Causes.{InstanceCause}
 use Rattle.pesp_runs.specs.declared.fault.Fault.{Fault}

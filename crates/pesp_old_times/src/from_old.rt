@@ -7,8 +7,8 @@ use pesp_runs::{Fault, MOST_TEXT, Start};
 use pesp_stream::{Source, read_all};
 use std::alloc::Global;
 
-/// Old times, which may be told in any order, for other events too, and violate activities: then a search begins with a timetable near
-/// to them, or with none where none is found, and a listener is told of it. `Times` where a line that begins with `time ` isn't one.
+/// Old times. They may be told in any order, for other events too, and violate activities. Then a search begins with a timetable
+/// near to them, or with none. A listener is told of it. `Times` where a line that begins with `time ` isn't one.
 #[derive(Drop)]
 pub struct FromOldTimes<L> {
     pub listener: L,

@@ -1,8 +1,8 @@
-//! Times by the labels of their events, in any order, of the same activities or of others: what a text tells of the events of an
-//! instance, and a run that begins with it.
+//! Old times by the labels of their events, in any order, of these activities or of others. What a text tells of an instance's
+//! events, and a run that begins with that.
 //!
-//! Repairs times that violate activities: a timetable near to them, with few and small moves, and what is told of it. Of the moves
-//! nothing is promised but that they are told as they are.
+//! Repairs times that violate activities: a timetable near to them, by few and small moves. The moves are told. Nothing is promised
+//! of them but that they are told as they are.
 #![tactic(auto)]
 
 mod beginning;

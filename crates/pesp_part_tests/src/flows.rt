@@ -2,10 +2,8 @@
 
 ghost use Rattle.std.specs.Prelude.{◌<◌, ◌≤◌, IsTrue};
 
-use crate::given::Case;
-use crate::spelling::tell_list;
-use crate::words::{small, whole};
 use pesp_bound::{Edge, Outcome, settle};
+use pesp_cases::{small, split_word, tell_list, whole, words_of};
 use pesp_forest::Frame;
 use pesp_network::Network;
 use pesp_relaxation::{Basis, PivotEnd, Slopes};
@@ -16,18 +14,24 @@ fn size(words: &[&str], place: usize) -> Option<usize> {
     usize::try_from(small(words, place)?).ok()
 }
 
+/// The edge of the words start, finish, gain and loss.
+fn edge_of(words: &[&str]) -> Option<Edge> {
+    Some(Edge {
+        start: size(words, 0)?,
+        finish: size(words, 1)?,
+        gain: size(words, 2)?,
+        loss: size(words, 3)?,
+    })
+}
+
 /// The edges of the lines `edge START FINISH GAIN LOSS`.
-fn edges_of(case: Case<'_>) -> Option<Vec<Edge>> {
-    let mut edges = Vec::new(case.alloc);
-    for words in &case.all("edge")? {
-        edges
-            .push(Edge {
-                start: size(words, 0)?,
-                finish: size(words, 1)?,
-                gain: size(words, 2)?,
-                loss: size(words, 3)?,
-            })
-            .ok()?;
+fn edges_of(alloc: Global, lines: &[&str]) -> Option<Vec<Edge>> {
+    let mut edges = Vec::new(alloc);
+    for line in lines {
+        let (word, rest) = split_word(line);
+        if word == "edge" {
+            edges.push(edge_of(&words_of(alloc, rest)?)?).ok()?;
+        }
     }
     Some(edges)
 }
@@ -38,13 +42,11 @@ fn is_within(edge: &Edge) -> bool
     edge.start < 3 && edge.finish < 3 && edge.gain <= 9
 }
 
-/// Tells the least levels of three events.
-/// Where a closed way gains, it tells how many edges that has.
-pub(crate) fn ask_levels(case: Case<'_>, told: &mut String) -> Option<()> {
-    tell_levels(case.alloc, &edges_of(case)?, told)
+/// Tells the least levels of three events, or how many edges a closed way that gains has; no gain is above 9.
+pub(crate) fn ask_levels(alloc: Global, lines: &[&str], told: &mut String) -> Option<()> {
+    tell_levels(alloc, &edges_of(alloc, lines)?, told)
 }
 
-/// Tells the same of edges between these events, of which none gains more than 9.
 fn tell_levels(alloc: Global, edges: &[Edge], told: &mut String) -> Option<()> {
     if !edges.iter().all(is_within) {
         return None;
@@ -55,8 +57,7 @@ fn tell_levels(alloc: Global, edges: &[Edge], told: &mut String) -> Option<()> {
     }
 }
 
-/// Sets what a unit of flow on a row costs, below, between and above.
-/// Sets its flow too.
+/// Sets what a unit of flow on a row costs below, between and above, and its flow.
 fn set_row(basis: &mut Basis, row: u32, words: &[&str]) -> Option<()> {
     let slopes = Slopes {
         below: whole(words, 0)?,
@@ -67,22 +68,24 @@ fn set_row(basis: &mut Basis, row: u32, words: &[&str]) -> Option<()> {
     basis.set_flow(row, whole(words, 3)?)
 }
 
-/// Sets each row by a line `flow BELOW BETWEEN ABOVE FLOW`. How many rows there are.
-fn set_rows(case: Case<'_>, basis: &mut Basis) -> Option<u32> {
+/// Sets the costs and the flow of each row by the lines `flow BELOW BETWEEN ABOVE FLOW`; how many rows there are.
+fn set_rows(alloc: Global, lines: &[&str], basis: &mut Basis) -> Option<u32> {
     let mut count = 0u32;
-    for words in &case.all("flow")? {
-        set_row(basis, count, words)?;
-        count = count.checked_add(1)?;
+    for line in lines {
+        let (word, rest) = split_word(line);
+        if word == "flow" {
+            set_row(basis, count, &words_of(alloc, rest)?)?;
+            count = count.checked_add(1)?;
+        }
     }
     Some(count)
 }
 
-/// Begins with the costs and the flows of the lines, and with a tree.
-/// How many rows there are.
-fn start(case: Case<'_>, frame: &Frame, basis: &mut Basis) -> Option<u32> {
-    let count = set_rows(case, basis)?;
-    let order: Vec<u32> = (0..count).collect(case.alloc).ok()?;
-    basis.start(case.alloc, frame, &order).ok()??;
+/// Begins with the costs and the flows of the lines, and with a tree; how many rows there are.
+fn start(alloc: Global, frame: &Frame, lines: &[&str], basis: &mut Basis) -> Option<u32> {
+    let count = set_rows(alloc, lines, basis)?;
+    let order: Vec<u32> = (0..count).collect(alloc).ok()?;
+    basis.start(alloc, frame, &order).ok()??;
     Some(count)
 }
 
@@ -94,16 +97,16 @@ fn tell_flows(basis: &Basis, count: u32, told: &mut String) -> Option<()> {
     Some(())
 }
 
-/// Tells the flows that are found.
-/// Or it tells a closed way along which more flow costs less without end.
+/// Tells the flows that are found in so many rounds, or a closed way along which more flow costs less without end.
 fn circulate(
-    case: Case<'_>,
+    alloc: Global,
     frame: &Frame,
     basis: &mut Basis,
+    lines: &[&str],
     rounds: u32,
     told: &mut String,
 ) -> Option<()> {
-    let count = start(case, frame, basis)?;
+    let count = start(alloc, frame, lines, basis)?;
     let ended = basis.solve(frame, rounds);
     let name = if ended == PivotEnd::Endless {
         " ray"
@@ -115,14 +118,20 @@ fn circulate(
 }
 
 /// Tells what is found on the rows of the network in so many rounds.
-pub(crate) fn ask_circulation(case: Case<'_>, network: &Network, told: &mut String) -> Option<()> {
-    let rounds = case.number(0)?;
-    let frame = Frame::new(case.alloc, network).ok()?;
-    let Ok(mut basis) = Basis::idle(case.alloc, &frame) else {
+pub(crate) fn ask_circulation(
+    alloc: Global,
+    network: &Network,
+    lines: &[&str],
+    words: &[&str],
+    told: &mut String,
+) -> Option<()> {
+    let rounds = small(words, 0)?;
+    let frame = Frame::new(alloc, network).ok()?;
+    let Ok(mut basis) = Basis::idle(alloc, &frame) else {
         drop(frame);
         return None;
     };
-    let done = circulate(case, &frame, &mut basis, rounds, told);
+    let done = circulate(alloc, &frame, &mut basis, lines, rounds, told);
     drop(frame);
     drop(basis);
     done

@@ -1,8 +1,7 @@
 //! What is found over a network.
 
-use crate::given::Case;
 use crate::rows::ranges_of;
-use crate::spelling::tell_list;
+use pesp_cases::{small, tell_list};
 use pesp_network::Network;
 use pesp_propagate::{Domains, Outcome, dive, propagate};
 use pesp_simplex::improve;
@@ -21,21 +20,24 @@ fn propagated(alloc: Global, network: &Network) -> Option<(Outcome, Domains)> {
     }
 }
 
-/// Tells what propagation comes to and which differences it leaves.
-/// Behind `left` it tells those of one event, behind `empty` the empty event.
-pub(crate) fn ask_domains(case: Case<'_>, network: &Network, told: &mut String) -> Option<()> {
-    let (outcome, domains) = propagated(case.alloc, network)?;
-    let done = answer(case, outcome, &domains, told);
+/// Tells what propagation comes to and the differences that it leaves; or those of one event, or the empty event.
+pub(crate) fn ask_domains(
+    alloc: Global,
+    network: &Network,
+    words: &[&str],
+    told: &mut String,
+) -> Option<()> {
+    let (outcome, domains) = propagated(alloc, network)?;
+    let done = answer(outcome, &domains, words, told);
     drop(domains);
     done
 }
 
-fn answer(case: Case<'_>, outcome: Outcome, domains: &Domains, told: &mut String) -> Option<()> {
-    match (case.word(0), outcome) {
-        (Some("left"), _) => tell_left(domains, case.number(1)?, told),
-        (Some("empty"), Outcome::Empty { event }) => write!(told, " {event}").ok(),
-        (Some("empty"), Outcome::Stable) => told.push_str(" none").ok(),
-        (Some(_), _) => None,
+fn answer(outcome: Outcome, domains: &Domains, words: &[&str], told: &mut String) -> Option<()> {
+    match (words.get(0).copied(), outcome) {
+        (Some("left"), _) => tell_left(domains, small(words, 1)?, told),
+        (Some(_), Outcome::Empty { event }) => write!(told, " {event}").ok(),
+        (Some(_), Outcome::Stable) => told.push_str(" none").ok(),
         (None, Outcome::Empty { .. }) => told.push_str(" empty").ok(),
         (None, Outcome::Stable) => tell_all(domains, told),
     }
@@ -51,9 +53,8 @@ fn tell_all(domains: &Domains, told: &mut String) -> Option<()> {
     Some(())
 }
 
-/// Tells the differences that are left of an event as ranges, or `none`.
+/// Tells the differences that are left of an event, as ranges.
 fn tell_left(domains: &Domains, event: u32, told: &mut String) -> Option<()> {
-    let before = told.len();
     let mut begun = None;
     for difference in 0..10_001u32 {
         let is_left = domains.has(event, difference);
@@ -66,26 +67,37 @@ fn tell_left(domains: &Domains, event: u32, told: &mut String) -> Option<()> {
             _ => {}
         }
     }
-    told.push_str(if told.len() == before { " none" } else { "" })
-        .ok()
+    Some(())
 }
 
-/// Tells whether a dive finds times in so many tries; behind `times` it tells them.
-pub(crate) fn ask_dive(case: Case<'_>, network: &Network, told: &mut String) -> Option<()> {
-    let Some(times) = dive(case.alloc, network, case.number(0)?).ok()? else {
-        return told.push_str(" none").ok();
-    };
-    match case.word(1) {
-        Some("times") => tell_list(&times, told),
-        Some(_) => None,
-        None => told.push_str(" found").ok(),
+/// Tells whether a dive finds times in so many tries, or the times themselves where they are asked for.
+pub(crate) fn ask_dive(
+    alloc: Global,
+    network: &Network,
+    words: &[&str],
+    told: &mut String,
+) -> Option<()> {
+    match dive(alloc, network, small(words, 0)?).ok()? {
+        Some(times) => {
+            if words.len() > 1 {
+                tell_list(&times, told)
+            } else {
+                told.push_str(" found").ok()
+            }
+        }
+        None => told.push_str(" none").ok(),
     }
 }
 
 /// Tells what an improvement of the times ends with in so many rounds.
-pub(crate) fn ask_improvement(case: Case<'_>, network: &Network, told: &mut String) -> Option<()> {
-    let times = case.list("times")?;
-    match improve(case.alloc, network, &times, case.number(0)?) {
+pub(crate) fn ask_improvement(
+    alloc: Global,
+    network: &Network,
+    times: &[u32],
+    rounds: u32,
+    told: &mut String,
+) -> Option<()> {
+    match improve(alloc, network, times, rounds) {
         Ok(found) => {
             let stop = found.stop;
             let rows = found.forest.len();

@@ -1,8 +1,7 @@
 //! Questions to a network.
 
-use crate::given::Case;
-use crate::spelling::{tell_list, tell_round, tell_rows};
-use crate::words::look_up;
+use crate::rows::list_of;
+use pesp_cases::{look_up, small, tell_list, tell_round, tell_rows};
 use pesp_network::Network;
 use pesp_problem::{SignedRow, Walk};
 use std::alloc::Global;
@@ -39,20 +38,28 @@ const ASKED: [(&str, Asked); 11] = [
 ];
 
 /// Tells the answer to a question to the network.
-pub(crate) fn ask_network(case: Case<'_>, network: &Network, told: &mut String) -> Option<()> {
-    let alloc = case.alloc;
-    let asked = look_up(&ASKED, case.word(0)?)?;
+pub(crate) fn ask_network(
+    alloc: Global,
+    network: &Network,
+    lines: &[&str],
+    words: &[&str],
+    told: &mut String,
+) -> Option<()> {
+    let asked = look_up(&ASKED, words.get(0)?)?;
     match asked {
         Asked::Size => tell_size(network, told),
         Asked::Forest => tell_run(&network.forest(alloc).ok()?, told),
         Asked::Kept => tell_kept(alloc, network, told),
         Asked::Bridges => tell_run(&bridges_of(alloc, network)?, told),
-        Asked::First => tell_first(network, case.number(1)?, told),
-        Asked::Way => tell_way(alloc, network, case.number(1)?, case.number(2)?, told),
-        Asked::Times | Asked::Timed => {
-            let slacks = case.list("slacks")?;
-            tell_times(alloc, network, &slacks, matches!(asked, Asked::Times), told)
-        }
+        Asked::First => tell_first(network, small(words, 1)?, told),
+        Asked::Way => tell_way(alloc, network, small(words, 1)?, small(words, 2)?, told),
+        Asked::Times | Asked::Timed => tell_times(
+            alloc,
+            network,
+            &list_of(alloc, lines, "slacks")?,
+            matches!(asked, Asked::Times),
+            told,
+        ),
         Asked::Cycles | Asked::Walks | Asked::Lengths => tell_table(alloc, network, asked, told),
     }
 }
@@ -78,7 +85,7 @@ fn tell_run(numbers: &[u32], told: &mut String) -> Option<()> {
     }
 }
 
-/// Tells what is asked of the table, or why there is none.
+/// Tells how many walks the table has, each of them by its rows, or how long they are; or why there is no table.
 fn tell_table(alloc: Global, network: &Network, asked: Asked, told: &mut String) -> Option<()> {
     match network.cycles(alloc) {
         Ok(table) => {
@@ -90,7 +97,6 @@ fn tell_table(alloc: Global, network: &Network, asked: Asked, told: &mut String)
     }
 }
 
-/// Tells how many walks the table has, each of them, or how long they are.
 fn tell_walks(alloc: Global, table: &[Walk], asked: Asked, told: &mut String) -> Option<()> {
     match asked {
         Asked::Walks => tell_each(alloc, table, told),
@@ -108,8 +114,7 @@ fn tell_each(alloc: Global, table: &[Walk], told: &mut String) -> Option<()> {
     Some(())
 }
 
-/// Tells how many walks the table has.
-/// Tells how many rows the shortest and the longest have.
+/// Tells how many walks the table has, and how many rows the shortest and the longest.
 fn tell_lengths(table: &[Walk], told: &mut String) -> Option<()> {
     let mut least = usize::MAX;
     let mut most = 0;
@@ -170,18 +175,28 @@ fn tell_way(alloc: Global, network: &Network, from: u32, to: u32, told: &mut Str
     }
 }
 
-/// Tells times, each less the first one.
-pub(crate) fn tell_later(times: &[u32], period: u32, told: &mut String) -> Option<()> {
+/// By how much each time is later than the first one.
+fn later(alloc: Global, times: &[u32], period: u32) -> Option<Vec<u32>> {
     let first = times.first().copied()?;
+    let mut later = Vec::new(alloc);
     for time in times {
         let by = time.wrapping_add(period).wrapping_sub(first);
-        write!(told, " {}", by.checked_rem(period)?).ok()?;
+        later.push(by.checked_rem(period)?).ok()?;
     }
-    Some(())
+    Some(later)
 }
 
-/// Tells the times that have these slacks, each less the first one.
-/// Or it tells how many there are.
+/// Tells times, each less the first one.
+pub(crate) fn tell_later(
+    alloc: Global,
+    times: &[u32],
+    period: u32,
+    told: &mut String,
+) -> Option<()> {
+    tell_list(&later(alloc, times, period)?, told)
+}
+
+/// Tells the times that have these slacks, each less the first one, or how many there are.
 fn tell_times(
     alloc: Global,
     network: &Network,
@@ -193,12 +208,14 @@ fn tell_times(
     if slacks.len() != network.rows().len() || !slacks.iter().all(|slack| *slack < period) {
         return None;
     }
-    let Some(times) = network.timetable_of(alloc, slacks).ok()? else {
-        return told.push_str(" none").ok();
-    };
-    if each {
-        tell_later(&times, period, told)
-    } else {
-        write!(told, " {} times", times.len()).ok()
+    match network.timetable_of(alloc, slacks).ok()? {
+        Some(times) => {
+            if each {
+                tell_later(alloc, &times, period, told)
+            } else {
+                write!(told, " {} times", times.len()).ok()
+            }
+        }
+        None => told.push_str(" none").ok(),
     }
 }

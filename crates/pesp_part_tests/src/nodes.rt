@@ -3,11 +3,9 @@
 ghost use Rattle.std.specs.Prelude.{IsTrue, IfSome};
 ghost use Rattle.pesp_nodes.specs.Problems.{IsNodeOf, IsCutOf};
 
-use crate::given::Case;
-use crate::rows::{cuts_of, network_of, table_of};
-use crate::spelling::{tell_number, tell_ranges};
-use crate::words::{look_up, pairs_of, words_of};
+use crate::rows::{cuts_of, given_network, table_of};
 use pesp_bound::{Leaf, Pairs, best_leaf, best_leaf_from};
+use pesp_cases::{look_up, pairs_of, small, tell_number, tell_ranges};
 use pesp_network::Network;
 use pesp_nodes::{
     Cut, Node, Pair, Problem, ProblemRefusal, Side, are_pairs, leaf_value, offset_range,
@@ -16,19 +14,19 @@ use pesp_problem::Walk;
 use std::alloc::Global;
 
 /// The given cycles, or the network's own where none are given.
-fn cycles_of(case: Case<'_>, network: &Network) -> Option<Vec<Walk>> {
-    let table = table_of(case)?;
+fn cycles_of(alloc: Global, network: &Network, lines: &[&str]) -> Option<Vec<Walk>> {
+    let table = table_of(alloc, lines)?;
     if table.is_empty() {
-        return network.cycles(case.alloc).ok();
+        return network.cycles(alloc).ok();
     }
     Some(table)
 }
 
-/// The problem of the network with these cycles.
-fn made(case: Case<'_>) -> Option<Result<Problem, ProblemRefusal>> {
-    let network = network_of(case)?.ok()?;
-    match cycles_of(case, &network) {
-        Some(table) => Some(Problem::new(case.alloc, network, table)),
+/// The problem of the network with the given cycles, or with its own where none are given.
+fn made(alloc: Global, lines: &[&str]) -> Option<Result<Problem, ProblemRefusal>> {
+    let network = given_network(alloc, lines)?;
+    match cycles_of(alloc, &network, lines) {
+        Some(table) => Some(Problem::new(alloc, network, table)),
         None => {
             drop(network);
             None
@@ -37,8 +35,8 @@ fn made(case: Case<'_>) -> Option<Result<Problem, ProblemRefusal>> {
 }
 
 /// Tells the size of the problem, or why there is none.
-pub(crate) fn ask_problem(case: Case<'_>, told: &mut String) -> Option<()> {
-    match made(case)? {
+pub(crate) fn ask_problem(alloc: Global, lines: &[&str], told: &mut String) -> Option<()> {
+    match made(alloc, lines)? {
         Ok(problem) => {
             let done = tell_size(&problem, told);
             drop(problem);
@@ -85,23 +83,29 @@ fn node_of(alloc: Global, problem: &Problem, cuts: &[(Cut, Side)]) -> Option<Nod
 }
 
 /// Tells the answer to a question to the node of the given cuts.
-pub(crate) fn ask_node(case: Case<'_>, told: &mut String) -> Option<()> {
-    let cuts = cuts_of(case)?;
-    let problem = made(case)?.ok()?;
-    let done = tell_node(case, &problem, &cuts, told);
+pub(crate) fn ask_node(
+    alloc: Global,
+    lines: &[&str],
+    words: &[&str],
+    told: &mut String,
+) -> Option<()> {
+    let cuts = cuts_of(alloc, lines)?;
+    let problem = made(alloc, lines)?.ok()?;
+    let done = tell_node(alloc, &problem, &cuts, words, told);
     drop(problem);
     done
 }
 
 fn tell_node(
-    case: Case<'_>,
+    alloc: Global,
     problem: &Problem,
     cuts: &[(Cut, Side)],
+    words: &[&str],
     told: &mut String,
 ) -> Option<()> {
-    match node_of(case.alloc, problem, cuts) {
+    match node_of(alloc, problem, cuts) {
         Some(node) => {
-            let done = answer(case, problem, &node, told);
+            let done = answer(alloc, problem, &node, words, told);
             drop(node);
             done
         }
@@ -130,16 +134,28 @@ const ASKED: [(&str, Asked); 6] = [
     ("leaf", Asked::Leaf),
 ];
 
-fn answer(case: Case<'_>, problem: &Problem, node: &Node, told: &mut String) -> Option<()>
+fn answer(
+    alloc: Global,
+    problem: &Problem,
+    node: &Node,
+    words: &[&str],
+    told: &mut String,
+) -> Option<()>
     requires { IsNodeOf problem.now node.now }
 {
-    match look_up(&ASKED, case.word(0)?)? {
+    let asked = look_up(&ASKED, words.get(0)?)?;
+    match asked {
         Asked::Slacks => tell_ranges(node.slacks(), told),
         Asked::Offsets => tell_ranges(node.offsets(), told),
-        Asked::Left => tell_left(problem, node, case.number(1)?, told),
-        Asked::Leaf => tell_best(case, problem, node, told),
-        Asked::Value => tell_value(problem, node, &given_pairs(case)?, true, told),
-        Asked::Emptiness => tell_value(problem, node, &given_pairs(case)?, false, told),
+        Asked::Left => tell_left(problem, node, small(words, 1)?, told),
+        Asked::Leaf => tell_best(alloc, problem, node, words, told),
+        Asked::Value | Asked::Emptiness => tell_value(
+            problem,
+            node,
+            &pairs_of(alloc, words.get(1..)?)?,
+            matches!(asked, Asked::Value),
+            told,
+        ),
     }
 }
 
@@ -154,11 +170,6 @@ fn tell_left(problem: &Problem, node: &Node, cycle: u32, told: &mut String) -> O
         Some((low, high)) => write!(told, " {low}..{high}").ok(),
         None => told.push_str(" none").ok(),
     }
-}
-
-/// The pairs behind the second word of the question.
-fn given_pairs(case: Case<'_>) -> Option<Vec<Pair>> {
-    pairs_of(case.alloc, words_of(case.alloc, case.rest)?.get(1..)?)
 }
 
 /// Tells the value of pairs, with the rows' weights or with all weights 0.
@@ -177,16 +188,20 @@ fn tell_value(
     tell_number(leaf_value(problem, node, pairs, weighted), told)
 }
 
-/// Tells the leaf that is found in so many rounds.
-/// Behind `start` these are 1000 rounds from no pairs.
-fn tell_best(case: Case<'_>, problem: &Problem, node: &Node, told: &mut String) -> Option<()>
+/// Tells the leaf that is found in so many rounds, or, behind `start`, in 1000 rounds from no pairs.
+fn tell_best(
+    alloc: Global,
+    problem: &Problem,
+    node: &Node,
+    words: &[&str],
+    told: &mut String,
+) -> Option<()>
     requires { IsNodeOf problem.now node.now }
 {
-    let alloc = case.alloc;
-    if case.word(1)? == "start" {
+    if *words.get(1)? == "start" {
         return tell_leaf(&best_leaf_from(alloc, problem, node, &[], 1000).ok()?, told);
     }
-    let rounds = case.number(1)?;
+    let rounds = small(words, 1)?;
     tell_leaf(&best_leaf(alloc, problem, node, rounds).ok()?, told)
 }
 

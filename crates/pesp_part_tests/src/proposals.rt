@@ -1,10 +1,8 @@
 //! What is proposed for a search.
 
-use crate::given::Case;
 use crate::networks::tell_kept;
-use crate::rows::ranges_of;
-use crate::spelling::tell_list;
-use crate::words::look_up;
+use crate::rows::{list_of, ranges_of};
+use pesp_cases::{look_up, small, tell_list};
 use pesp_network::Network;
 use pesp_propagate::dive_to;
 use pesp_strategy::{Advice, Strategy};
@@ -36,41 +34,52 @@ const ASKED: [(&str, Asked); 8] = [
     ("dive", Asked::Dive),
 ];
 
-/// Tells the answer to a question about proposals.
-/// The network has the forest of the line `forest ..`.
-/// Asked are that forest and its size, and the forest that exchanges lead to.
-/// Asked too are what is advised for the root, and the times of a dive.
-pub(crate) fn ask_proposal(case: Case<'_>, network: &Network, told: &mut String) -> Option<()> {
-    let forest = case.list("forest")?;
-    let planted = network.with_forest(case.alloc, &forest).ok()?;
-    let done = answer(case, &planted, told);
+/// Tells the answer to a question about proposals for a network with the forest of the line `forest ..`: that forest, how many
+/// rows it has, the forest that so many exchanges by a seed lead to or how many rows that has, what is advised for the root, or
+/// the times of a dive in so many tries to the prices of the line `prices ..`.
+pub(crate) fn ask_proposal(
+    alloc: Global,
+    network: &Network,
+    lines: &[&str],
+    words: &[&str],
+    told: &mut String,
+) -> Option<()> {
+    let forest = list_of(alloc, lines, "forest")?;
+    let planted = network.with_forest(alloc, &forest).ok()?;
+    let done = answer(alloc, &planted, lines, words, told);
     drop(planted);
     done
 }
 
-fn answer(case: Case<'_>, network: &Network, told: &mut String) -> Option<()> {
-    let asked = look_up(&ASKED, case.word(0)?)?;
+fn answer(
+    alloc: Global,
+    network: &Network,
+    lines: &[&str],
+    words: &[&str],
+    told: &mut String,
+) -> Option<()> {
+    let asked = look_up(&ASKED, words.get(0)?)?;
     match asked {
-        Asked::Forest => tell_list(&network.forest(case.alloc).ok()?, told),
-        Asked::Rows => tell_kept(case.alloc, network, told),
-        Asked::Search => tell_list(&searched(case, network)?, told),
-        Asked::Searched => write!(told, " {}", searched(case, network)?.len()).ok(),
-        Asked::Dive => tell_dive(case, network, told),
-        _ => tell_advised(case, network, asked, told),
+        Asked::Forest => tell_list(&network.forest(alloc).ok()?, told),
+        Asked::Rows => tell_kept(alloc, network, told),
+        Asked::Search => tell_list(&searched(alloc, network, words)?, told),
+        Asked::Searched => write!(told, " {}", searched(alloc, network, words)?.len()).ok(),
+        Asked::Dive => tell_dive(alloc, network, lines, small(words, 1)?, told),
+        _ => tell_advised(alloc, network, asked, lines, told),
     }
 }
 
 /// The forest that exchanges lead to, by a seed and so many of them.
-fn searched(case: Case<'_>, network: &Network) -> Option<Vec<u32>> {
-    search_forest(case.alloc, network, case.number(1)?, case.number(2)?).ok()
+fn searched(alloc: Global, network: &Network, words: &[&str]) -> Option<Vec<u32>> {
+    search_forest(alloc, network, small(words, 1)?, small(words, 2)?).ok()
 }
 
 /// The offsets of the root's cycles, from 0 to those of the line `offsets ..`.
-fn offsets_of(case: Case<'_>) -> Option<Vec<(i64, i64)>> {
-    case.list("offsets")?
+fn offsets_of(alloc: Global, lines: &[&str]) -> Option<Vec<(i64, i64)>> {
+    list_of(alloc, lines, "offsets")?
         .iter()
         .map(|most| (0, i64::from(*most)))
-        .collect(case.alloc)
+        .collect(alloc)
         .ok()
 }
 
@@ -86,11 +95,17 @@ fn advice_for(
     advice.ok()?
 }
 
-/// Tells what is asked of the advice for the root.
-fn tell_advised(case: Case<'_>, network: &Network, asked: Asked, told: &mut String) -> Option<()> {
-    let slacks = ranges_of(case.alloc, network)?;
-    let offsets = offsets_of(case)?;
-    match advice_for(case.alloc, network, &slacks, &offsets) {
+/// Tells what is asked of the advice for the root, whose cycles have the offsets of the line `offsets ..`.
+fn tell_advised(
+    alloc: Global,
+    network: &Network,
+    asked: Asked,
+    lines: &[&str],
+    told: &mut String,
+) -> Option<()> {
+    let slacks = ranges_of(alloc, network)?;
+    let offsets = offsets_of(alloc, lines)?;
+    match advice_for(alloc, network, &slacks, &offsets) {
         Some(advice) => {
             let done = tell_advice(asked, &advice, told);
             drop(advice);
@@ -107,7 +122,7 @@ fn tell_advice(asked: Asked, advice: &Advice, told: &mut String) -> Option<()> {
             let pairs = advice.leaf.pairs.len();
             write!(told, " value {}, {pairs} pairs", advice.leaf.value).ok()
         }
-        Asked::Cut => tell_split(advice, told),
+        Asked::Cut => tell_cut(advice, told),
         _ => match &advice.times {
             Some(times) => tell_list(times, told),
             None => None,
@@ -115,7 +130,7 @@ fn tell_advice(asked: Asked, advice: &Advice, told: &mut String) -> Option<()> {
     }
 }
 
-fn tell_split(advice: &Advice, told: &mut String) -> Option<()> {
+fn tell_cut(advice: &Advice, told: &mut String) -> Option<()> {
     let Some(split) = &advice.cut else {
         return told.push_str(" none").ok();
     };
@@ -130,18 +145,23 @@ fn tell_split(advice: &Advice, told: &mut String) -> Option<()> {
 }
 
 /// The prices of the line `prices ..`.
-fn prices_of(case: Case<'_>) -> Option<Vec<i64>> {
-    case.list("prices")?
+fn prices_of(alloc: Global, lines: &[&str]) -> Option<Vec<i64>> {
+    list_of(alloc, lines, "prices")?
         .iter()
         .map(|price| i64::from(*price))
-        .collect(case.alloc)
+        .collect(alloc)
         .ok()
 }
 
-/// Tells the times that a dive to the prices finds in so many tries.
-fn tell_dive(case: Case<'_>, network: &Network, told: &mut String) -> Option<()> {
-    let tries = case.number(1)?;
-    match dive_to(case.alloc, network, &prices_of(case)?, tries).ok()? {
+/// Tells the times that a dive to the prices finds.
+fn tell_dive(
+    alloc: Global,
+    network: &Network,
+    lines: &[&str],
+    tries: u32,
+    told: &mut String,
+) -> Option<()> {
+    match dive_to(alloc, network, &prices_of(alloc, lines)?, tries).ok()? {
         Some(times) => tell_list(&times, told),
         None => told.push_str(" none").ok(),
     }

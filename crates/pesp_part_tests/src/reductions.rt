@@ -6,11 +6,9 @@ ghost use Rattle.pesp_problem.specs.NetTimetables.{IsNetTimetable};
 ghost use Rattle.pesp_problem.specs.Walks.{IsWalk};
 ghost use Rattle.pesp_network.specs.Networks.{arcs_of_network, net_of_network};
 
-use crate::given::Case;
 use crate::networks::tell_later;
-use crate::rows::instance_of;
-use crate::spelling::tell_round;
-use crate::words::look_up;
+use crate::rows::{instance_of, list_of};
+use pesp_cases::{look_up, tell_round};
 use pesp_network::{NetRow, Network};
 use pesp_problem::{Instance, Score, Walk, score};
 use pesp_reduce::{Reduced, reduce};
@@ -38,9 +36,14 @@ const ASKED: [(&str, Asked); 6] = [
 ];
 
 /// Tells the answer to a question to what is left of the instance.
-pub(crate) fn ask_reduced(case: Case<'_>, told: &mut String) -> Option<()> {
-    let instance = instance_of(case)?;
-    let done = tell_reduced(case, &instance, told);
+pub(crate) fn ask_reduced(
+    alloc: Global,
+    lines: &[&str],
+    words: &[&str],
+    told: &mut String,
+) -> Option<()> {
+    let instance = instance_of(alloc, lines)?;
+    let done = tell_reduced(alloc, &instance, lines, words, told);
     drop(instance);
     done
 }
@@ -51,10 +54,16 @@ fn reduced(alloc: Global, instance: &Instance) -> Option<Reduced>
     reduce(alloc, instance).ok()
 }
 
-fn tell_reduced(case: Case<'_>, instance: &Instance, told: &mut String) -> Option<()> {
-    match reduced(case.alloc, instance) {
+fn tell_reduced(
+    alloc: Global,
+    instance: &Instance,
+    lines: &[&str],
+    words: &[&str],
+    told: &mut String,
+) -> Option<()> {
+    match reduced(alloc, instance) {
         Some(left) => {
-            let done = answer(case, instance, &left, told);
+            let done = answer(alloc, instance, &left, lines, words, told);
             drop(left);
             done
         }
@@ -62,17 +71,37 @@ fn tell_reduced(case: Case<'_>, instance: &Instance, told: &mut String) -> Optio
     }
 }
 
-fn answer(case: Case<'_>, instance: &Instance, left: &Reduced, told: &mut String) -> Option<()>
+fn answer(
+    alloc: Global,
+    instance: &Instance,
+    left: &Reduced,
+    lines: &[&str],
+    words: &[&str],
+    told: &mut String,
+) -> Option<()>
     requires { left.now.original ≡ instance.now }
 {
-    let alloc = case.alloc;
-    match look_up(&ASKED, case.word(0)?)? {
+    match look_up(&ASKED, words.get(0)?)? {
         Asked::Size => tell_size(left.network(), told),
         Asked::Loop => tell_loop(left.network(), told),
         Asked::Origin => write!(told, " {}", only_row(left.network())?.origin).ok(),
         Asked::Lifted => tell_round(alloc, lifted_walk(alloc, left)?.rows(), told),
-        Asked::Lowered => tell_lowered(alloc, instance, left, &case.list("times")?, told),
-        Asked::Costs => tell_costs(alloc, instance, left, &case.list("times")?, told),
+        Asked::Lowered => {
+            tell_lowered(
+                alloc,
+                instance,
+                left,
+                &list_of(alloc, lines, "times")?,
+                told,
+            )
+        }
+        Asked::Costs => tell_costs(
+            alloc,
+            instance,
+            left,
+            &list_of(alloc, lines, "times")?,
+            told,
+        ),
     }
 }
 
@@ -90,8 +119,7 @@ fn only_row(network: &Network) -> Option<NetRow> {
     }
 }
 
-/// Tells of the only row that is left, from an event to itself.
-/// Told are its span, and what remains of its lower bound.
+/// Tells of the only row that is left, from an event to itself, its span, and what remains of its lower bound.
 fn tell_loop(network: &Network, told: &mut String) -> Option<()> {
     let row = only_row(network)?;
     if row.tail != row.head {
@@ -131,7 +159,12 @@ fn tell_lowered(
     requires { left.now.original ≡ instance.now }
 {
     cost_of(instance, times)?;
-    tell_later(&low_times(alloc, left, times)?, instance.period(), told)
+    tell_later(
+        alloc,
+        &low_times(alloc, left, times)?,
+        instance.period(),
+        told,
+    )
 }
 
 /// The cost of the times of what is left, lifted.

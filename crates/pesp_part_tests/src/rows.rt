@@ -1,21 +1,26 @@
-//! Instances, networks, cycles and cuts that the lines of a case give.
+//! Networks, lists, cycles and cuts that the lines of a case give.
 
 ghost use Rattle.std.specs.Prelude.{◌≡◌, IfSome, length};
 
-use crate::given::Case;
-use crate::words::{cut_of, signed_rows, small, split_word, whole, words_of};
+use pesp_cases::{
+    cut_of, line_of, numbers, period_of, signed_rows, small, split_word, text_of, whole, words_of,
+};
 use pesp_instance::read_instance;
 use pesp_network::{NetRefusal, NetRow, Network};
 use pesp_problem::{Cut, Instance, Side, Walk};
 use std::alloc::Global;
+
+/// The list behind a word, and how often it is repeated: `times 2 0 3` is 0 3 0 3.
+pub(crate) fn list_of(alloc: Global, lines: &[&str], name: &str) -> Option<Vec<u32>> {
+    numbers(alloc, &words_of(alloc, line_of(lines, name)?)?)
+}
 
 /// The event of the word at a place, later by so many events.
 fn event_of(words: &[&str], place: usize, by: u32) -> Option<u32> {
     small(words, place)?.checked_add(by)
 }
 
-/// The row of the words tail, head, lower bound, span and weight.
-/// It is later by so many events.
+/// The row of the words tail, head, lower bound, span and weight, later by so many events.
 fn row_of(words: &[&str], by: u32) -> Option<NetRow> {
     Some(NetRow {
         tail: event_of(words, 0, by)?,
@@ -27,8 +32,7 @@ fn row_of(words: &[&str], by: u32) -> Option<NetRow> {
     })
 }
 
-/// Adds so many rows of the same words.
-/// Each is later by the step than the one before.
+/// Adds so many rows of the same words, each with both events later by the step than the one before.
 fn add_rows(rows: &mut Vec<NetRow>, words: &[&str], count: u32, step: u32) -> Option<()> {
     for place in 0..count {
         rows.push(row_of(words, place.checked_mul(step)?)?).ok()?;
@@ -36,7 +40,7 @@ fn add_rows(rows: &mut Vec<NetRow>, words: &[&str], count: u32, step: u32) -> Op
     Some(())
 }
 
-/// Adds the rows of a line `row ROW` or `rows COUNT STEP ROW`.
+/// Adds the row of a line `row ROW`, or the rows of a line `rows COUNT STEP ROW`.
 fn add_line(alloc: Global, rows: &mut Vec<NetRow>, line: &str) -> Option<()> {
     let (name, rest) = split_word(line);
     let words = words_of(alloc, rest)?;
@@ -48,41 +52,49 @@ fn add_line(alloc: Global, rows: &mut Vec<NetRow>, line: &str) -> Option<()> {
 }
 
 /// The rows of the lines `row ..` and `rows ..`.
-fn rows_of(case: Case<'_>) -> Option<Vec<NetRow>> {
-    let mut rows = Vec::new(case.alloc);
-    for line in case.lines {
-        add_line(case.alloc, &mut rows, line)?;
+fn rows_of(alloc: Global, lines: &[&str]) -> Option<Vec<NetRow>> {
+    let mut rows = Vec::new(alloc);
+    for line in lines {
+        add_line(alloc, &mut rows, line)?;
     }
     Some(rows)
 }
 
 /// The instance of a case.
-pub fn instance_of(case: Case<'_>) -> Option<Instance> {
-    let period = case.period()?;
-    read_instance(case.alloc, &case.text("instance")?, period).ok()
+pub(crate) fn instance_of(alloc: Global, lines: &[&str]) -> Option<Instance> {
+    let period = period_of(lines)?;
+    read_instance(alloc, &text_of(alloc, lines, "instance")?, period).ok()
 }
 
 /// The network of the rows between so many events.
-fn network_between(case: Case<'_>, events: u32) -> Option<Result<Network, NetRefusal>> {
-    let period = case.period()?;
-    Some(Network::new(case.alloc, period, events, rows_of(case)?))
+fn network_between(
+    alloc: Global,
+    lines: &[&str],
+    events: u32,
+) -> Option<Result<Network, NetRefusal>> {
+    let period = period_of(lines)?;
+    Some(Network::new(alloc, period, events, rows_of(alloc, lines)?))
 }
 
 /// The network of the instance.
-fn network_of_instance(case: Case<'_>) -> Option<Network> {
-    let instance = instance_of(case)?;
-    let network = Network::of(case.alloc, &instance);
+fn network_of_instance(alloc: Global, lines: &[&str]) -> Option<Network> {
+    let instance = instance_of(alloc, lines)?;
+    let network = Network::of(alloc, &instance);
     drop(instance);
     network.ok()
 }
 
-/// The network of the rows between the events of the line `events N`.
-/// That of the instance, where there is no such line.
-pub(crate) fn network_of(case: Case<'_>) -> Option<Result<Network, NetRefusal>> {
-    match case.line("events") {
-        Some(count) => network_between(case, count.parse().ok()?),
-        None => Some(Ok(network_of_instance(case)?)),
+/// The network of the rows between the events of the line `events N`, or that of the instance where there is no such line.
+pub(crate) fn network_of(alloc: Global, lines: &[&str]) -> Option<Result<Network, NetRefusal>> {
+    match line_of(lines, "events") {
+        Some(count) => network_between(alloc, lines, count.parse().ok()?),
+        None => Some(Ok(network_of_instance(alloc, lines)?)),
     }
+}
+
+/// The network that the lines give.
+pub(crate) fn given_network(alloc: Global, lines: &[&str]) -> Option<Network> {
+    network_of(alloc, lines)?.ok()
 }
 
 /// The slacks of the rows, each from 0 to its span.
@@ -97,29 +109,41 @@ pub(crate) fn ranges_of(alloc: Global, network: &Network) -> Option<Vec<(u32, u3
         .ok()
 }
 
+/// The walk of the words of a text.
+fn walk_of(alloc: Global, text: &str) -> Option<Walk> {
+    Some(Walk::new(signed_rows(alloc, &words_of(alloc, text)?)?))
+}
+
 /// The cycles of the lines `cycle ..`.
-pub fn table_of(case: Case<'_>) -> Option<Vec<Walk>> {
-    let mut table = Vec::new(case.alloc);
-    for words in &case.all("cycle")? {
-        table.push(Walk::new(signed_rows(case.alloc, words)?)).ok()?;
+pub(crate) fn table_of(alloc: Global, lines: &[&str]) -> Option<Vec<Walk>> {
+    let mut table = Vec::new(alloc);
+    for line in lines {
+        let (word, rest) = split_word(line);
+        if word == "cycle" {
+            table.push(walk_of(alloc, rest)?).ok()?;
+        }
     }
     Some(table)
 }
 
-/// The side that a word names.
-fn side_of(word: &str) -> Option<Side> {
-    match word {
-        "low" => Some(Side::Low),
-        "high" => Some(Side::High),
-        _ => None,
-    }
+/// The cut of `CUT SIDE`.
+fn cut_with_side(alloc: Global, text: &str) -> Option<(Cut, Side)> {
+    let side = if text.ends_with("low") {
+        Side::Low
+    } else {
+        Side::High
+    };
+    Some((cut_of(&words_of(alloc, text)?)?, side))
 }
 
 /// The cuts of the lines `cut CUT SIDE`.
-pub(crate) fn cuts_of(case: Case<'_>) -> Option<Vec<(Cut, Side)>> {
-    let mut cuts = Vec::new(case.alloc);
-    for words in &case.all("cut")? {
-        cuts.push((cut_of(words)?, side_of(words.get(3)?)?)).ok()?;
+pub(crate) fn cuts_of(alloc: Global, lines: &[&str]) -> Option<Vec<(Cut, Side)>> {
+    let mut cuts = Vec::new(alloc);
+    for line in lines {
+        let (word, rest) = split_word(line);
+        if word == "cut" {
+            cuts.push(cut_with_side(alloc, rest)?).ok()?;
+        }
     }
     Some(cuts)
 }

@@ -1,6 +1,6 @@
-//! Parts of a network by the inequalities of a root: divisions of its rows into regions, the multipliers by which less crosses them,
-//! what these leave of weights, and each region as a network of its own. Nothing is promised of them but that all is found safely,
-//! and the same in each run.
+//! Parts of a network by the inequalities of a root. Divisions of its rows into regions, and the multipliers by which less crosses
+//! them. What these leave of weights, and each region as a network of its own. Nothing is promised of them but safety, and that
+//! each run finds the same.
 #![tactic(auto)]
 
 mod division;

@@ -1,7 +1,7 @@
-//! A plan: the best timetable and bound that are found in the time there is, written at its end, or kept where others read it while
-//! it is made. The file in which its certificate stands, whole at every moment.
+//! A plan: the best timetable and bound that are found in the time there is. It is written at its end, or kept where others read it
+//! meanwhile. The file in which its certificate stands, whole at every moment.
 //!
-//! How far a search or a plan is, told on standard error, and when its time is over. Nothing is promised of that but safety: what is
+//! How far a search or a plan is, told on standard error. When its time is over. Nothing is promised of that but safety: what is
 //! found doesn't depend on it.
 #![tactic(auto)]
 

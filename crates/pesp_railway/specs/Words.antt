@@ -11,7 +11,7 @@ direction_word Out = codes "out"
 direction_word Back = codes "back"
 direction_word Nowhere = []
 
--- the word for what a train does at an event, empty where it neither comes nor leaves
+-- the word for what a train does at an event. Empty where it neither comes nor leaves
 abbrev pub halt_word : Halt → List ℕ
 halt_word Arrival = codes "arrival"
 halt_word Departure = codes "departure"

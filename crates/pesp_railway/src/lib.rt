@@ -1,4 +1,4 @@
-//! The railway that names tell: its lines and stations, what activities are there, the ways of trains, and what is told of each
+//! The railway that names tell: its lines and stations, and what activities are there. The ways of trains, and what is told of each
 //! event along them.
 #![tactic(auto)]
 

@@ -134,7 +134,7 @@ impl<'a> Level<'a> {
         }
     }
 
-    /// Puts each region into the list of the region of a coarser division that it is inside of.
+    /// Puts each region into the list of the coarser region that it is in.
     fn list_inner(&self, coarser: &Division, inner: &mut [Vec<u32>]) -> Result<(), AllocError> {
         for (row, own) in self.division.regions.iter().enumerate() {
             if let Some(own) = own

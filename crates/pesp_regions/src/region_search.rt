@@ -34,7 +34,7 @@ pub(crate) struct RegionSearch {
     is_over: bool,
 }
 
-/// The tree of a network whose weights are in units of which so many make up one.
+/// The tree of a network. Its weights are in units of which so many make up one.
 fn sharpening_of(alloc: Global, network: &Network, unit: u32) -> Result<Box<Sharpening>, Memory> {
     let sharpening = Sharpening::in_units(alloc, network, SEED, SCALE, unit)?;
     Ok(Box::new(alloc, sharpening)?)

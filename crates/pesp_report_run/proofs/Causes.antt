@@ -13,7 +13,7 @@ use Rattle.pesp_report.specs.declared.refusal.ReportRefusal.TheVariants.{Violate
 use Rattle.pesp_report.specs.Violations.{RefusesViolations, IfWriteFailed, violations_of, violations_text}
 use Rattle.pesp_report.specs.declared.refusal.ViolationsRefusal.{ViolationsRefusal}
 use Rattle.pesp_report.specs.declared.refusal.ViolationsRefusal.TheVariants.{NotTimes as NoTimes, Memory as ViolationsMemory, Write as ViolationsWrite}
-use Rattle.pesp_check.specs.Devices.{over}
+use Rattle.pesp_check_run.specs.Devices.{over}
 use Rattle.pesp_runs.specs.FaultLines.{names_fault, report_fault, violations_fault}
 use Rattle.pesp_runs.specs.Causes.{RowCause, OutCause}
 use Rattle.pesp_report_run.specs.Naming.{NamesCause}

@@ -3,7 +3,7 @@ use Rattle.std.specs.Prelude.{ℕ, List, [], Option, Some, None}
 use Rattle.pesp_problem.specs.Timetables.{Pesp}
 use Rattle.pesp_report_run.specs.Fixed.{IsText}
 use Rattle.pesp_report_run.specs.declared.fix_refusal.FixRefusal.{FixRefusal}
-use Rattle.pesp_check.specs.Devices.{Device}
+use Rattle.pesp_check_run.specs.Devices.{Device}
 use Rattle.pesp_runs.specs.Reading.{ReadsTimes}
 use Rattle.pesp_runs.specs.Causes.{TimesCause, OutCause}
 use Rattle.pesp_runs.specs.Runs.{OverBaseCause}
@@ -16,7 +16,7 @@ abbrev pub WritesFixed : Pesp → Option FixRefusal → (List ℕ → Type 0) �
 WritesFixed p None Gets = WritesSheet (IsText p) Gets
 WritesFixed p (Some refusal) Gets = Gets []
 
--- each fault of the run and its cause
+-- each fault of the run and its cause. The second reader is called only where the first text has an instance
 abbrev pub FixCause : Fault → Device → Device → Device → ℕ → Type 0 → Type 0
 FixCause fault reader times_reader writer period uncalled =
     OverBaseCause ReadsTimes TimesCause fault reader times_reader writer period uncalled (λ p times fault cut. OutCause fault cut)

@@ -1,7 +1,7 @@
 -- What the runs that write something of a timetable read and write, and when they tell which fault.
 use Rattle.std.specs.Prelude.{◌⊎◌, ℕ, List}
 use Rattle.pesp_problem.specs.Timetables.{Pesp, IsTimetable}
-use Rattle.pesp_check.specs.Devices.{Device}
+use Rattle.pesp_check_run.specs.Devices.{Device}
 use Rattle.pesp_runs.specs.Reading.{ReadsTimes}
 use Rattle.pesp_runs.specs.Causes.{TimesCause, RowCause, OutCause}
 use Rattle.pesp_runs.specs.Runs.{OverBaseCause}
@@ -11,7 +11,8 @@ use Rattle.pesp_runs.specs.declared.fault.Fault.{Fault}
 abbrev pub WritesSheet : (List ℕ → Type 0) → (List ℕ → Type 0) → Type 0
 WritesSheet Shows Gets = (text : List ℕ) × Shows text × Gets text
 
--- each fault and its cause, in the order of what is read and written
+-- each fault and its cause, in the order of what is read and written. The second reader is called only where the first text has an
+-- instance
 abbrev pub SheetCause : Fault → Device → Device → Device → ℕ → Type 0 → (Pesp → List ℕ → List ℕ → Type 0) → Type 0
 SheetCause fault reader times_reader writer period uncalled Shows =
     OverBaseCause ReadsTimes TimesCause fault reader times_reader writer period uncalled

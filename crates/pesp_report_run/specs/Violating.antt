@@ -2,17 +2,17 @@
 use Rattle.std.specs.Prelude.{◌≡◌, ℕ, ℤ, List, Option, length}
 use Rattle.pesp_problem.specs.Timetables.{Pesp, AreTimes}
 use Rattle.pesp_report.specs.Violations.{violations_of, violations_text}
-use Rattle.pesp_check.specs.Devices.{Device}
+use Rattle.pesp_check_run.specs.Devices.{Device}
 use Rattle.pesp_runs.specs.Reading.{ReadsTimes, OverBase}
 use Rattle.pesp_runs.specs.Causes.{TimesCause, OutCause}
 use Rattle.pesp_runs.specs.Runs.{OverBaseCause}
 use Rattle.pesp_runs.specs.declared.fault.Fault.{Fault}
 
--- the bytes that were read give the instance these times, one below the period for each event
+-- the bytes that were read give these times to the instance. There is one below the period for each event
 abbrev pub GivesTimes : Option (List ℕ) → Option (List ℕ) → Pesp → List ℕ → Type 0
 GivesTimes told left p times = ReadsTimes told left p times × AreTimes p times
 
--- the first text has an instance and the second one gives such times, of which this is said
+-- the first text has an instance, and the second such times. This is said of both
 abbrev pub ReadsForEvents : Option (List ℕ) → Option (List ℕ) → Option (List ℕ) → Option (List ℕ) → ℕ → (Pesp → List ℕ → Type 0) → Type 0
 ReadsForEvents told left told_times left_times period Holds = OverBase GivesTimes told left told_times left_times period Holds
 
@@ -22,7 +22,7 @@ abbrev pub WritesViolations : Pesp → List ℕ → Option (ℤ → List ℕ) �
 WritesViolations p times naming count Gets =
     (count ≡ length (violations_of p times)) × Gets (violations_text naming (violations_of p times))
 
--- each fault of the run and its cause
+-- each fault of the run and its cause. The second reader is called only where the first text has an instance
 abbrev pub ViolationsCause : Fault → Device → Device → Device → ℕ → Type 0 → Option (ℤ → List ℕ) → Type 0
 ViolationsCause fault reader times_reader writer period uncalled naming =
     OverBaseCause ReadsTimes TimesCause fault reader times_reader writer period uncalled

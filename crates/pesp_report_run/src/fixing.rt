@@ -4,7 +4,7 @@ ghost use Rattle.std.specs.Prelude.{◌≡◌, ◌≢◌, ◌<◌, ◌≤◌, �
 ghost use Rattle.std.specs.Io.KnownBytes.{Appends};
 ghost use Rattle.pesp_stream.specs.Counts.{FewerThan, HasWorked};
 ghost use Rattle.pesp_report_run.specs.Fixed.{IsText};
-ghost use Rattle.pesp_check.specs.Devices.{over, HasFailed, GetsFront};
+ghost use Rattle.pesp_check_run.specs.Devices.{over, HasFailed, GetsFront};
 ghost use Rattle.pesp_runs.specs.Causes.{OutCause};
 ghost use Rattle.pesp_report_run.specs.Reporting.{WritesSheet};
 ghost use Rattle.pesp_report_run.specs.Violating.{ReadsForEvents};

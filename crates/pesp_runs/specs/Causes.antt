@@ -12,7 +12,7 @@ use Rattle.pesp_search.specs.Solving.{IsSearchRefusal}
 use Rattle.pesp_search.specs.declared.refusal.SolveRefusal.TheVariants.{Memory as SearchMemory}
 use Rattle.pesp_report.specs.TimesText.{times_from_text}
 use Rattle.pesp_report.specs.declared.refusal.ReportRefusal.TheVariants.{Violates}
-use Rattle.pesp_check.specs.Devices.{Device, HasFailed}
+use Rattle.pesp_check_run.specs.Devices.{Device, HasFailed}
 use Rattle.pesp_runs.specs.Reading.{ReadsNext, ReadsTimes, ReadsCertificate, RefusesInstance}
 use Rattle.pesp_runs.specs.declared.fault.Fault.{Fault}
 use Rattle.pesp_runs.specs.declared.fault.Fault.TheVariants.{Instance, Certificate, Times, Search, Report, Base, Memory, Read, Write}

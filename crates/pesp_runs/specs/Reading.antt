@@ -6,7 +6,7 @@ use Rattle.pesp_problem.specs.Timetables.{Pesp, IsTimetable}
 use Rattle.pesp_truth.specs.Certificates.{Content, IsValid}
 use Rattle.pesp_cert.specs.Refusals.{IsTextOf}
 use Rattle.pesp_report.specs.TimesText.{times_from_text}
-pub use Rattle.pesp_check.specs.Checking.{ReadsInstance, RefusesInstance}
+pub use Rattle.pesp_check_run.specs.Checking.{ReadsInstance, RefusesInstance}
 
 -- the bytes that were read, at most MOST_TEXT, and what holds of them
 pub record ReadsNext (told left : Option (List ℕ)) (Holds : List ℕ → Type 0) : Type 0 where
@@ -14,7 +14,7 @@ pub record ReadsNext (told left : Option (List ℕ)) (Holds : List ℕ → Type 
   pub read : ReadsText told left MOST_TEXT text
   pub holds : Holds text
 
--- the first text has an instance, and the second one gives what a command begins with, of which this is said
+-- the first text has an instance, and the second what a command begins with. This is said of both
 abbrev pub OverBase : {B : Type 0} → (Option (List ℕ) → Option (List ℕ) → Pesp → B → Type 0)
     → Option (List ℕ) → Option (List ℕ) → Option (List ℕ) → Option (List ℕ) → ℕ → (Pesp → B → Type 0) → Type 0
 OverBase {B} Reads told left told_base left_base period Holds =
@@ -27,11 +27,11 @@ OverBase {B} Reads told left told_base left_base period Holds =
 abbrev pub ReadsTimes : Option (List ℕ) → Option (List ℕ) → Pesp → List ℕ → Type 0
 ReadsTimes told left p times = ReadsNext told left (λ text. times_from_text p text ≡ Ok times)
 
--- and these are a timetable
+-- the bytes that were read give the instance these times, which are a timetable
 abbrev pub GivesTimetable : Option (List ℕ) → Option (List ℕ) → Pesp → List ℕ → Type 0
 GivesTimetable told left p times = ReadsTimes told left p times × IsTimetable p times
 
--- the first text has an instance and the second one a timetable of it, of which this is said
+-- the first text has an instance, and the second a timetable of it. This is said of both
 abbrev pub ReadsTimetable : Option (List ℕ) → Option (List ℕ) → Option (List ℕ) → Option (List ℕ) → ℕ → (Pesp → List ℕ → Type 0) → Type 0
 ReadsTimetable told left told_times left_times period Holds = OverBase GivesTimetable told left told_times left_times period Holds
 
@@ -41,10 +41,10 @@ ReadsTimetable told left told_times left_times period Holds = OverBase GivesTime
 abbrev pub ReadsCertificate : Option (List ℕ) → Option (List ℕ) → Content → Type 0
 ReadsCertificate told left certificate = ReadsNext told left (λ text. IsTextOf None text certificate)
 
--- they are, and it is valid for the instance
+-- the bytes that were read are its text, and it is valid for the instance
 abbrev pub ReadsBase : Option (List ℕ) → Option (List ℕ) → Pesp → Content → Type 0
 ReadsBase told left p base = ReadsCertificate told left base × IsValid None p base
 
--- the first text has an instance and the second one a base of it, of which this is said
+-- the first text has an instance, and the second a base of it. This is said of both
 abbrev pub HasBase : Option (List ℕ) → Option (List ℕ) → Option (List ℕ) → Option (List ℕ) → ℕ → (Pesp → Content → Type 0) → Type 0
 HasBase told left told_base left_base period Holds = OverBase ReadsBase told left told_base left_base period Holds

@@ -4,7 +4,7 @@
 use Rattle.std.specs.Prelude.{◌≡◌, ◌⊎◌, ⊤, ℕ, List, [], Option}
 use Rattle.std.specs.Io.KnownBytes.{Appends}
 use Rattle.pesp_problem.specs.Timetables.{Pesp}
-use Rattle.pesp_check.specs.Devices.{Device, HasFailed, GetsFront}
+use Rattle.pesp_check_run.specs.Devices.{Device, HasFailed, GetsFront}
 use Rattle.pesp_runs.specs.Reading.{ReadsInstance, ReadsNext}
 use Rattle.pesp_runs.specs.Causes.{InstanceCause, TextCause}
 pub use Rattle.pesp_runs.specs.Reading.{OverBase}
@@ -12,8 +12,8 @@ use Rattle.pesp_runs.specs.declared.fault.Fault.{Fault}
 
 -- ---- from a certificate, or from times
 
--- each fault and its cause, in the order of what is read and written; the second reader is called only where the first text
--- has an instance
+-- each fault and its cause, in the order of what is read and written. The second reader is called only where the first text has an
+-- instance
 abbrev pub OverBaseCause : {B : Type 0} → (Option (List ℕ) → Option (List ℕ) → Pesp → B → Type 0)
     → (Fault → Device → Pesp → Type 0) → Fault → Device → Device → Device → ℕ → Type 0
     → (Pesp → B → Fault → Type 0 → Type 0) → (Pesp → B → (List ℕ → Type 0) → Type 0) → Type 0
@@ -26,25 +26,26 @@ OverBaseCause {B} Reads Refused fault reader base_reader writer period uncalled 
 
 -- ---- from works for a certificate
 
--- the third text is read too, and this is said of it
+-- the first text has an instance, and the second what a command begins with. The third is read, whatever it is. This is said of all
+-- three
 abbrev pub OverWorks : {B : Type 0} → (Option (List ℕ) → Option (List ℕ) → Pesp → B → Type 0)
     → Option (List ℕ) → Option (List ℕ) → Option (List ℕ) → Option (List ℕ) → Option (List ℕ) → Option (List ℕ) → ℕ
     → (Pesp → B → List ℕ → Type 0) → Type 0
 OverWorks Reads told left told_base left_base told_works left_works period Holds =
     OverBase Reads told left told_base left_base period (λ p base. ReadsNext told_works left_works (Holds p base))
 
--- the writer or the reader wasn't called
+-- this device wasn't called
 abbrev pub IsUncalled : Device → Type 0
 IsUncalled device = (device.new ≡ device.old) × (device.calls_new ≡ device.calls_old)
 
--- the writer failed behind a front, and nothing was told; or the writer has all, and the teller failed
+-- the writer failed behind a front, and nothing was told. Or the writer has all, and the teller failed
 abbrev pub EitherFailed : ((List ℕ → Type 0) → (List ℕ → Type 0) → Type 0) → Device → Device → Type 0
 EitherFailed Writes writer teller =
     (HasFailed writer × IsUncalled teller × Writes (GetsFront writer) (λ told. ⊤))
     ⊎ (HasFailed teller × Writes (Appends writer.old writer.new) (GetsFront teller))
 
--- each fault and its cause; the second reader is called only where the first text has an instance, and the third only where the
--- second has a base of it
+-- each fault and its cause. The second reader is called only where the first text has an instance. The third is called only where
+-- the second text has a base of it
 abbrev pub OverWorksCause : {B : Type 0} → (Option (List ℕ) → Option (List ℕ) → Pesp → B → Type 0)
     → (Fault → Device → Pesp → Type 0) → Fault → Device → Device → Device → Device → Device → ℕ → Type 0 → Type 0
     → (Pesp → B → List ℕ → Fault → Type 0 → Type 0)

@@ -1,8 +1,8 @@
 //! The runs of commands, over any readers and writers. They read an instance, and times, a certificate or works where the command
-//! has them. They hand these to a task, and say what was read and written, and whose fault it was.
+//! has them. They hand these to a task. They say what was read and written, and whose fault it was.
 //!
-//! Why a run stops, as a line and as an exit status. The texts that several runs read: an instance, times for its events, and a
-//! certificate that is valid for it. The numbers that a command line gives to a run, within its limits.
+//! Why a run stops, as a line and as an exit status. The texts that several runs read: an instance, times for its events, a valid
+//! certificate. The numbers that a command line gives to a run, within its limits.
 #![tactic(auto)]
 
 mod base;
@@ -31,4 +31,4 @@ pub use seconds::{MOST_SECONDS, seconds_within};
 pub use share_word::{MOST_SHARES, share_of};
 pub use start::{FromTimetable, Start};
 pub use steps::steps_within;
-pub use texts::{MOST_TEXT, read_base, read_whole_instance, read_whole_times};
+pub use texts::{MOST_TEXT, read_whole_instance, read_whole_times};

@@ -6,7 +6,7 @@ ghost use Rattle.pesp_problem.specs.declared.limits.TheConstants.{MOST_TEXT};
 ghost use Rattle.pesp_stream.specs.Counts.{FewerThan, HasWorked};
 ghost use Rattle.pesp_stream.specs.Reading.{ReadsText};
 ghost use Rattle.pesp_problem.specs.Timetables.{Pesp};
-ghost use Rattle.pesp_check.specs.Devices.{over};
+ghost use Rattle.pesp_check_run.specs.Devices.{over};
 ghost use Rattle.pesp_runs.specs.declared.fault.Fault.{Fault as AnyFault};
 ghost use Rattle.pesp_runs.specs.Causes.{TextCause};
 ghost use Rattle.pesp_runs.specs.Runs.{OverWorks, OverWorksCause, EitherFailed};
@@ -17,16 +17,16 @@ use pesp_problem::Instance;
 use pesp_stream::{Sink, Source, read_all};
 use std::alloc::Global;
 
-/// What is made of a valid certificate of an instance and of works, whoever made them; what is written of it, and told of the works.
+/// What is made of an instance's valid certificate and of works, whoever made them. What is written of it, and what is told of the
+/// works.
 pub trait OnWorks {
     /// The certificate that is read.
     type Base: Base;
 
-    // What is written and told of a base and of a text of works: the writer and the teller got what the last two relations say of
-    // their texts.
+    // What is written and told of a base and of a text of works. The last two relations say what the writer and the teller got.
     ghost writes: { Self → Pesp → Self.Base → List ℕ → (List ℕ → Type 0) → (List ℕ → Type 0) → Type 0 };
 
-    // Why not all went out whole. The last one says that the writer or the teller failed, behind a front of its text.
+    // Why not all went out whole. The last one says that the writer or the teller failed, behind a front.
     ghost stops: { Self → Pesp → Self.Base → List ℕ → AnyFault → Type 0 → Type 0 };
 
     /// Makes and writes it, and then tells of the works. Neither the writer nor the teller is called before all that is written
@@ -36,21 +36,21 @@ pub trait OnWorks {
         alloc: Global,
         instance: &Instance,
         base: Self::Base,
-        works: &[u8],
+        works: Vec<u8>,
         writer: &mut W,
         teller: &mut E,
     ) -> Result<(), Fault>
         requires valid { Self.Base.valid instance.now base }
-        requires short { length works.now ≤ MOST_TEXT }
+        requires short { length works.items ≤ MOST_TEXT }
         requires writes_fit { FewerThan (2 ^ 63) (W.calls writer.old) }
         requires tellings_fit { FewerThan (2 ^ 63) (E.calls teller.old) }
-        ensures ok { OnOk result (writes self.now instance.now base works.now
+        ensures ok { OnOk result (writes self.now instance.now base works.items
             (Appends (W.contents writer.old) (W.contents writer.new))
             (Appends (E.contents teller.old) (E.contents teller.new))) }
         ensures writes { OnOk result (HasWorked (W.calls writer.old) (W.calls writer.new)) }
         ensures tellings { OnOk result (HasWorked (E.calls teller.old) (E.calls teller.new)) }
-        ensures cause { IfErr result (λ fault. stops self.now instance.now base works.now fault
-            (EitherFailed (writes self.now instance.now base works.now)
+        ensures cause { IfErr result (λ fault. stops self.now instance.now base works.items fault
+            (EitherFailed (writes self.now instance.now base works.items)
             (over (W.contents writer.old) (W.contents writer.new)
             (W.calls writer.old) (W.calls writer.new))
             (over (E.contents teller.old) (E.contents teller.new)
@@ -75,9 +75,9 @@ fn read_works<T: Source>(alloc: Global, reader: &mut T) -> Result<Vec<u8>, Fault
     Ok(text)
 }
 
-/// Reads an instance, then a certificate that is valid for it, and then works, whoever made them; and writes and tells what a task
-/// makes of these. At most 1,073,741,824 bytes of works are read. The instance is judged before the certificate is read, and this one
-/// before the works are; nothing is written and nothing told before all stands. `Base` where the certificate isn't valid.
+/// Reads an instance, a certificate that is valid for it, and works, whoever made them. Writes and tells what a task makes of
+/// these. At most 1,073,741,824 bytes of works are read. The instance is judged before the certificate is read, and that before the
+/// works are. Nothing is written and nothing told before all stands. `Base` where the certificate isn't valid.
 pub fn run_on_works<K: OnWorks, R: Source, B: Source, T: Source, W: Sink, E: Sink>(
     alloc: Global,
     task: &K,
@@ -130,5 +130,5 @@ pub fn run_on_works<K: OnWorks, R: Source, B: Source, T: Source, W: Sink, E: Sin
     let instance = read_whole_instance(alloc, instance_reader, period)?;
     let base = K::Base::read(alloc, &instance, base_reader)?;
     let works = read_works(alloc, works_reader)?;
-    task.write(alloc, &instance, base, &works, writer, teller)
+    task.write(alloc, &instance, base, works, writer, teller)
 }

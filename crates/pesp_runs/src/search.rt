@@ -4,7 +4,7 @@ ghost use Rattle.std.specs.Prelude.{◌≡◌, ◌≢◌, ◌<◌, ◌^◌, ℕ,
 ghost use Rattle.std.specs.Io.KnownBytes.{Appends};
 ghost use Rattle.pesp_stream.specs.Counts.{FewerThan, HasWorked};
 ghost use Rattle.pesp_problem.specs.Timetables.{Pesp};
-ghost use Rattle.pesp_check.specs.Devices.{over, HasFailed, GetsFront};
+ghost use Rattle.pesp_check_run.specs.Devices.{over, HasFailed, GetsFront};
 ghost use Rattle.pesp_runs.specs.declared.fault.Fault.{Fault as AnyFault};
 ghost use Rattle.pesp_runs.specs.Runs.{Alone, AloneCause, OverBase, OverBaseCause};
 
@@ -76,8 +76,8 @@ pub fn run_alone<S: Search, R: Source, W: Sink>(
     search.write(alloc, &instance, &[], writer)
 }
 
-/// Runs as `run_alone` does, from the times that the second reader gives. The instance is judged before the times are read, and
-/// nothing is written before all stands.
+/// Runs as `run_alone` does, from the times that the second reader gives. The instance is judged before the times are read. Nothing
+/// is written before all stands.
 pub fn run_from_times<S: Search, N: Start, R: Source, T: Source, W: Sink>(
     alloc: Global,
     search: &mut S,

@@ -2,14 +2,13 @@
 
 ghost use Rattle.std.specs.Prelude.{◌≢◌, ◌<◌, ◌^◌, ℕ, List, Option, OnOk, IfOk, IfErr};
 ghost use Rattle.pesp_stream.specs.Counts.{FewerThan, HasWorked};
-ghost use Rattle.pesp_problem.specs.Timetables.{Pesp, AreTimes, IsTimetable};
-ghost use Rattle.pesp_check.specs.Devices.{Device, over};
-ghost use Rattle.pesp_runs.specs.Causes.{RowCause};
+ghost use Rattle.pesp_problem.specs.Timetables.{Pesp};
+ghost use Rattle.pesp_check_run.specs.Devices.{Device, over};
 ghost use Rattle.pesp_runs.specs.declared.fault.Fault.{Fault as AnyFault};
 
 use crate::{Fault, read_whole_times};
-use pesp_problem::{Instance, Score, score};
-use pesp_report::ReportRefusal;
+use pesp_problem::Instance;
+use pesp_report::cost_of;
 use pesp_stream::Source;
 use std::alloc::Global;
 
@@ -40,19 +39,6 @@ pub trait Start {
             (R.calls reader.old) (R.calls reader.new)) instance.now) };
 }
 
-/// Says that times are a timetable, or which row they violate first.
-fn judge(instance: &Instance, times: &[u32]) -> Result<(), Fault>
-    requires { AreTimes instance.now times.now }
-    ensures timetable { OnOk result (IsTimetable instance.now times.now) }
-    ensures cause { IfErr result (λ fault. RowCause fault instance.now times.now) }
-{
-    match score(instance, times) {
-        Score::Feasible { .. } => Ok(()),
-        Score::Violates { row, .. } => Err(Fault::Report(ReportRefusal::Violates { row })),
-        Score::NotTimes => unreachable!(),
-    }
-}
-
 /// Times that are a timetable: `Times` where their text is refused, and `Report` with the first row that they violate.
 #[derive(Clone, Copy)]
 pub struct FromTimetable;
@@ -72,7 +58,7 @@ impl Start for FromTimetable {
         reader: &mut R,
     ) -> Result<Vec<u32>, Fault> {
         let times = read_whole_times(alloc, instance, reader)?;
-        judge(instance, &times)?;
+        cost_of(instance, &times)?;
         Ok(times)
     }
 }

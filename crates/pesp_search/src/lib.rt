@@ -1,11 +1,11 @@
-//! Branch and bound for periodic timetables: a timetable with a certificate of how good it is (Odijk 1996; Nachtigall and
-//! Opitz 2008; Liebchen 2006).
+//! Branch and bound for periodic timetables (Odijk 1996; Nachtigall and Opitz 2008; Liebchen 2006). It finds a timetable, with a
+//! certificate of how good it is.
 //!
-//! What a valid certificate may say of itself beyond what a check asks for: the least bound that its tree shows, told as its
-//! answer, and branches that leave both of their parts an offset.
+//! What a valid certificate may say of itself beyond what a check asks for. The least bound that its tree shows, told as its
+//! answer. Branches that leave both of their parts an offset.
 //!
-//! What a search that sharpens asks for, whoever proposes it: certificates whose leaves name marked walks beside cycles
-//! (Nachtigall 1998; Lindner and others 2020). Nothing is promised of what is proposed: others judge it.
+//! What a search that sharpens asks for, whoever proposes it. Certificates whose leaves name marked walks beside cycles (Nachtigall
+//! 1998; Lindner and others 2020). Nothing is promised of what is proposed: others judge it.
 #![tactic(auto)]
 
 mod begun;

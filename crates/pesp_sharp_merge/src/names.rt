@@ -129,8 +129,8 @@ fn number_of(place: usize) -> u32 {
     u32::try_from(place).unwrap_or(u32::MAX)
 }
 
-/// The other certificate's cycles or walks: which are named, which of ours each is, the numbers of ours, and the first number of
-/// those that are new.
+/// The other certificate's cycles or walks: which are named, and which of ours each is. The numbers of ours, and the first number
+/// of those that are new.
 #[derive(Clone, Copy)]
 struct Theirs<'a> {
     named: &'a [bool],
@@ -145,7 +145,7 @@ impl Theirs<'_> {
         self.named.get(place).copied().unwrap_or(false)
     }
 
-    /// Puts their numbers into a list, and the places of those that are named and new into another.
+    /// Puts their numbers into a list, and the places of named new ones into another.
     fn number(&self, new: &mut Vec<u32>, numbers: &mut Vec<u32>) -> Result<(), Memory> {
         for (place, ours) in self.matched.iter().enumerate() {
             let number = match ours {

@@ -136,7 +136,7 @@ impl Sharpening {
         })
     }
 
-    /// What these multipliers show at a leaf, which is open where that doesn't reach the limit.
+    /// What these multipliers show at a leaf. It is open where that doesn't reach the limit.
     fn open_given(
         &mut self,
         given: Given<'_>,
@@ -245,7 +245,7 @@ impl Sharpening {
         Ok(true)
     }
 
-    /// Puts a tree of this shape in the place of its own, whose open leaves these were.
+    /// Puts a tree of this shape in the place of its own. These were the open leaves of that.
     fn take_tree(
         &mut self,
         given: &Sharpened,

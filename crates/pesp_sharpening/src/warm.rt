@@ -112,7 +112,7 @@ impl Sharpening {
         self.share_if(shared, begun)
     }
 
-    /// A tree that is given goes on by exchanges over these inequalities of the pool and those of walks, where they are for it.
+    /// A tree that is given goes on by exchanges, where these inequalities are for it. They are of the pool, and of walks.
     pub(crate) fn share_given(
         &mut self,
         common: &[u32],

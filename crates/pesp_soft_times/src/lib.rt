@@ -1,7 +1,7 @@
-//! The search for cheap timetables by anneals in which spans may be broken: individuals that are merged, and reheats of the best
-//! one. Networks in which several events are moved as one, so that a part is searched anew or what timetables have in common stays;
-//! and the cheapest timetable under the offsets of another. Nothing is promised but that all is found safely, in so many steps, and
-//! the same in each run.
+//! The search for cheap timetables by anneals in which spans may be broken. Individuals are merged, and the best one is reheated.
+//! Networks in which several events are moved as one. So a part is searched anew, or what timetables have in common stays. The
+//! cheapest timetable under the offsets of another. Nothing is promised but safety, so many steps, and that each run finds the
+//! same.
 #![tactic(auto)]
 
 mod ball;

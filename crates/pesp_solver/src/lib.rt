@@ -1,8 +1,8 @@
-//! The calls that look for timetables by a search of their own: nobody has to hand in what finds them.
+//! The calls that look for timetables by a search of their own. Nobody has to hand in what finds them.
 //!
-//! The search for cheap timetables of a network: times from dives of the relaxation, annealed, and merged by contracting what
-//! they have in common; and beside it the search in which spans may be broken. Nothing is promised but that all is found safely,
-//! in so many steps, and the same in each run: what is found is judged by others.
+//! The search for cheap timetables of a network. Times come from dives of the relaxation, and are annealed. They are merged by
+//! contracting what they have in common. Beside it stands the search in which spans may be broken. Nothing is promised but safety,
+//! so many steps, and that each run finds the same. What is found is judged by others.
 #![tactic(auto)]
 
 mod balls;

@@ -97,7 +97,7 @@ impl TimetableSearch {
         Ok(())
     }
 
-    /// Has a cheaper timetable that agrees with all of a pool, where one is found, in the place of the first.
+    /// Looks for a cheaper timetable that agrees with all of a pool. It takes the place of the first.
     fn merge_into_first(
         &mut self,
         network: &Network,

@@ -5,7 +5,7 @@ ghost use Rattle.std.specs.Io.KnownBytes.{Appends};
 ghost use Rattle.std.specs.List.Sorted.{IsStrictlyIncreasing};
 ghost use Rattle.pesp_problem.specs.declared.limits.TheConstants.{MOST_STEPS};
 ghost use Rattle.pesp_stream.specs.Counts.{FewerThan, HasWorked};
-ghost use Rattle.pesp_check.specs.Devices.{over};
+ghost use Rattle.pesp_check_run.specs.Devices.{over};
 ghost use Rattle.pesp_runs.specs.Reading.{HasBase};
 ghost use Rattle.pesp_tasks.specs.Solving.{Solves, SolveCause};
 ghost use Rattle.pesp_tasks.specs.Outside.{WritesWorks, WorkCause};

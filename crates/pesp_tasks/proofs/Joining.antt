@@ -17,7 +17,7 @@ use Rattle.pesp_cert.proofs.TextLengths.{texts_short}
 use Rattle.pesp_cert_items.specs.Texts.{RefusesText}
 use Rattle.pesp_judges.specs.declared.refusal.Verdict.{Verdict}
 use Rattle.pesp_judges.specs.declared.refusal.Verdict.TheVariants.{Accepted}
-use Rattle.pesp_check.specs.Checking.{Checks, ReadsInstance, RefusesInstance}
+use Rattle.pesp_check_run.specs.Checking.{Checks, ReadsInstance, RefusesInstance}
 use Rattle.pesp_runs.specs.Reading.{ReadsBase, ReadsTimetable}
 use Rattle.pesp_tasks.specs.Solving.{Solves, WritesSolution}
 use Rattle.pesp_runs.specs.Bases.{ReadsSharpBase}

@@ -8,7 +8,7 @@ use Rattle.pesp_judges.specs.declared.refusal.Verdict.TheVariants.{Accepted}
 use Rattle.pesp_truth.specs.Certificates.{IsValid, Front as FrontOf}
 use Rattle.pesp_cert.specs.Fronted.{Fronted, IsFrontedText, fronted_text}
 use Rattle.pesp_cert_lines.specs.declared.versions.Versions.TheVariants.{All}
-use Rattle.pesp_check.specs.Checking.{Checks, ReadsInstance}
+use Rattle.pesp_check_run.specs.Checking.{Checks, ReadsInstance}
 use Rattle.pesp_runs.specs.Reading.{ReadsTimetable}
 use Rattle.pesp_runs.specs.Bases.{ReadsSharpBase}
 use Rattle.pesp_runs.specs.Runs.{OverBase, OverWorks}

@@ -18,7 +18,7 @@ use Rattle.pesp_worker.specs.Texts.{jobs_text, reply_line}
 use Rattle.pesp_worker.specs.HandingIn.{AreWorksOn, AreWorkRefusal}
 use Rattle.pesp_worker.specs.declared.refusal.WorkRefusal.{WorkRefusal}
 use Rattle.pesp_worker.specs.declared.refusal.WorkRefusal.TheVariants.{Memory as WorkMemory, NoSuchJob}
-use Rattle.pesp_check.specs.Devices.{Device}
+use Rattle.pesp_check_run.specs.Devices.{Device}
 use Rattle.pesp_runs.specs.Reading.{ReadsBase}
 use Rattle.pesp_runs.specs.Causes.{BaseCause, OutCause}
 use Rattle.pesp_runs.specs.Runs.{OverBaseCause, OverWorksCause}
@@ -45,7 +45,8 @@ pub record WritesJobs (p : Pesp) (base : Content) (Gets : List ℕ → Type 0) :
   pub are_open : AreOpenJobs p base jobs
   pub written : Gets (jobs_text jobs)
 
--- each fault of `split` and its cause
+-- each fault of `split` and its cause, in the order of reading and writing. The second reader is called only where the first text
+-- has an instance
 abbrev pub SplitCause : Fault → Device → Device → Device → ℕ → Type 0 → Type 0
 SplitCause fault reader base_reader writer period uncalled =
     OverBaseCause ReadsBase BaseCause fault reader base_reader writer period uncalled (λ p base fault cut. OutCause fault cut)
@@ -96,7 +97,8 @@ abbrev pub Grafts : Pesp → Content → List ℕ → (List ℕ → Type 0) → 
 Grafts p base text Gets Tells =
     (works : List WorkValue) × works_texts.IsTextOfWorks text works × WritesGraft p base works Gets Tells
 
--- each fault of `graft` and its cause
+-- each fault of `graft` and its cause. The second reader is called only where the first text has an instance. The third is called
+-- only where the second text has a base of it
 abbrev pub GraftCause : Fault → Device → Device → Device → Device → Device → ℕ → Type 0 → Type 0 → Type 0
 GraftCause fault reader base_reader works_reader writer teller period uncalled works_uncalled =
     OverWorksCause ReadsBase BaseCause fault reader base_reader works_reader writer teller period uncalled works_uncalled

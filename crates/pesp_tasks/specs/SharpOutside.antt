@@ -1,4 +1,4 @@
--- What work on certificates that may have a front writes, and when it tells which fault.
+-- What is written of work on certificates that may have a front. When which fault is told.
 use Rattle.std.specs.Prelude.{ℕ, List, Option}
 use Rattle.pesp_problem.specs.Timetables.{Pesp}
 use Rattle.pesp_cert.specs.Fronted.{Fronted}

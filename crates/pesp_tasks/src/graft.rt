@@ -7,7 +7,7 @@ ghost use Rattle.pesp_truth.specs.Certificates.{IsValid};
 ghost use Rattle.pesp_cert_items.specs.Works.{WorkValue};
 ghost use Rattle.pesp_cert_items.specs.Refusals.{IsTextOfWorks};
 ghost use Rattle.pesp_worker.specs.Grafts.{IsGrafted};
-ghost use Rattle.pesp_check.specs.Devices.{over};
+ghost use Rattle.pesp_check_run.specs.Devices.{over};
 ghost use Rattle.pesp_runs.specs.Reading.{ReadsBase};
 ghost use Rattle.pesp_runs.specs.Runs.{OverWorks};
 ghost use Rattle.pesp_tasks.specs.Outside.{works_fault, WorksCause, Grafts, GraftCause};
@@ -30,26 +30,28 @@ fn works_fault(refusal: CertRefusal) -> Fault
     }
 }
 
-/// Grafts the works of a text onto a valid certificate.
+/// Grafts the works of a text onto a valid certificate. The text is dropped once it is parsed.
 #[tactic(auto, using(crate::proofs::Causes::works_cause))]
 fn graft_text(
     alloc: Global,
     instance: &Instance,
     base: &Certificate,
-    text: &[u8],
+    text: Vec<u8>,
 ) -> Result<Grafted, Fault>
     requires valid { IsValid None instance.now base.now }
-    ensures ok { IfOk result (λ grafted. (works : List WorkValue) × IsTextOfWorks text.now works
+    ensures ok { IfOk result (λ grafted. (works : List WorkValue) × IsTextOfWorks text.items works
         × IsGrafted instance.now base.now works grafted.replies.items grafted.certificate) }
-    ensures cause { IfErr result (λ fault. WorksCause fault text.now) }
+    ensures cause { IfErr result (λ fault. WorksCause fault text.items) }
 {
-    match parse_works(alloc, text) {
+    let parsed = parse_works(alloc, &text);
+    drop(text);
+    match parsed {
         Ok(works) => Ok(graft(alloc, instance, base, works)?),
         Err(refusal) => Err(works_fault(refusal)),
     }
 }
 
-/// Works that are grafted onto a certificate: the certificate that comes of it is written, and what became of each work is told.
+/// Works that are grafted onto a certificate. What comes of it is written, and what became of each work is told.
 #[derive(Clone, Copy)]
 pub struct Graft;
 
@@ -69,7 +71,7 @@ impl OnWorks for Graft {
         alloc: Global,
         instance: &Instance,
         base: Certificate,
-        works: &[u8],
+        works: Vec<u8>,
         writer: &mut W,
         teller: &mut E,
     ) -> Result<(), Fault> {

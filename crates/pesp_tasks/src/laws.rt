@@ -8,7 +8,7 @@ ghost use Rattle.pesp_judges.specs.declared.refusal.Verdict.{Verdict};
 ghost use Rattle.pesp_judges.specs.declared.refusal.Verdict.TheVariants.{Accepted};
 ghost use Rattle.pesp_cert_lines.specs.declared.versions.Versions.TheVariants.{Plain, All};
 ghost use Rattle.pesp_cert_items.specs.Texts.{RefusesText};
-ghost use Rattle.pesp_check.specs.Checking.{Checks, RefusesInstance};
+ghost use Rattle.pesp_check_run.specs.Checking.{Checks, RefusesInstance};
 ghost use Rattle.pesp_runs.specs.Reading.{ReadsBase, ReadsTimetable};
 ghost use Rattle.pesp_runs.specs.Bases.{ReadsSharpBase};
 ghost use Rattle.pesp_runs.specs.Runs.{OverBase, OverWorks};
@@ -93,8 +93,7 @@ pub fn what_is_resumed_is_accepted()
         → verdict ≡ Accepted }
 {}
 
-/// And so are the bytes that `SolveSharp` appended from times, that `Resume` appended, that `WorkSharp` appended, and that
-/// `GraftSharp` appended.
+/// And so are the bytes that `SolveSharp` appended from times. And those that `Resume`, `WorkSharp` and `GraftSharp` appended.
 pub fn what_goes_on_with_marks_is_accepted()
     ensures from_times { (text before bytes : List ℕ) (left times left_times left_instance left_certificate old new : Option
         (List ℕ)) (period steps : ℕ) (verdict : Verdict)

@@ -9,8 +9,8 @@ use pesp_sharp_search::graft_sharp;
 use pesp_stream::{Bytes, Sink, print_to};
 use std::alloc::Global;
 
-/// Works, each a whole certificate, that are grafted onto a certificate with a front or without: the certificate that comes of it is
-/// written, and what became of each work is told.
+/// Works, each a whole certificate, grafted onto a certificate with a front or without. What comes of it is written, and what
+/// became of each work is told.
 #[derive(Clone, Copy)]
 pub struct GraftSharp;
 
@@ -29,11 +29,13 @@ impl OnWorks for GraftSharp {
         alloc: Global,
         instance: &Instance,
         base: Fronted,
-        works: &[u8],
+        works: Vec<u8>,
         writer: &mut W,
         teller: &mut E,
     ) -> Result<(), Fault> {
-        let found = graft_sharp(alloc, instance, base, works)?;
+        let found = graft_sharp(alloc, instance, base, &works);
+        drop(works);
+        let found = found?;
         let lines = lines_of(alloc, &found.replies)?;
         vouch(instance, &found.fronted);
         print_fronted(&found.fronted, writer)?;

@@ -1,5 +1,5 @@
-//! A timetable by trains and stations, in the order of the ways of trains: as records of csv, as JSON, or as one page in HTML
-//! without a network, which has diagrams, the slack of each activity and what was found in plain words too.
+//! A timetable by trains and stations, in the order of the ways of trains. It is written as records of csv, as JSON, or as one page
+//! in HTML. The page needs no network. It has diagrams, each activity's slack, and what was found in plain words.
 #![tactic(auto)]
 
 mod claim;

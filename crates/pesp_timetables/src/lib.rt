@@ -1,6 +1,6 @@
-//! Timetables of a network by their slacks: the cheapest that was met, and dives of the relaxation that lead to some. The search for
-//! a spanning forest whose cycles promise a strong bound and leave few offsets open. Nothing is promised but that all is found
-//! safely, in so many steps, and the same in each run: what is proposed is judged by others.
+//! Timetables of a network by their slacks. The cheapest that was met, and dives of the relaxation that lead to some. The search
+//! for a spanning forest. Its cycles promise a strong bound, and leave few offsets open. Nothing is promised but safety, so many
+//! steps, and that each run finds the same. What is proposed is judged by others.
 #![tactic(auto)]
 
 mod cheapest;

@@ -1,10 +1,10 @@
-//! Certificates as values: what a solver claims, the tree that shows it, and the theorem that a valid certificate is true.
+//! Certificates as values. What a solver claims, and the tree that shows it. The theorem that a valid certificate is true.
 //!
-//! Lemmas of an instance: sums of weight times slack that are large enough at every timetable, how a tree shows one, and
-//! what leaves gain that name some.
+//! Lemmas of an instance. Sums of weight times slack that are large enough at every timetable. How a tree shows one, and what
+//! leaves gain that name some.
 //!
-//! The checker's own pass for leaves that propagation closes: whether the rows support no family of sets of time
-//! differences without an empty set.
+//! The checker's own pass for leaves that propagation closes. Whether the rows support no family of sets of time differences
+//! without an empty set.
 #![tactic(auto)]
 
 mod answer;

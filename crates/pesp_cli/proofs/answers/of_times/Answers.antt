@@ -1,11 +1,11 @@
 use Rattle.std.proofs.Common.{inr}
-use Rattle.pesp_check.proofs.ReadingLemmas.{told_as}
+use Rattle.pesp_check_run.proofs.ReadingLemmas.{told_as}
 use Rattle.pesp_cli.proofs.Ends.{stopped, stopped_from, without_names, unless_named, with_names}
 use Rattle.pesp_cli.proofs.answers.of_times.Goals as goal
 
 pub returns-in_err-told-in-Picture-clause-stopped : goal.returns-in_err-told-in-Picture-clause-stopped
 returns-in_err-told-in-Picture-clause-stopped g c =
-    let none = c.in_err-told-in-Picture.ensures in
+    let none = c.in_err-told-in-Picture.ensures.stopped in
     rw c.in-Picture.is (told_as _ _ _ c.from_residual.ensures.1 (unless_named _ _ _ none))
 
 pub returns-in_ok-told-in-Picture-clause-stopped : goal.returns-in_ok-told-in-Picture-clause-stopped
@@ -35,7 +35,7 @@ returns-in_ok-told-in-Diagrams-clause-silent g c =
 
 pub returns-in_err-told-in-Timetable-clause-stopped : goal.returns-in_err-told-in-Timetable-clause-stopped
 returns-in_err-told-in-Timetable-clause-stopped g c =
-    let none = c.in_err-told-in-Timetable.ensures in
+    let none = c.in_err-told-in-Timetable.ensures.stopped in
     rw c.in-Timetable.is (told_as _ _ _ c.from_residual-in_err-told-in-Timetable.ensures.1 (unless_named _ _ _ none))
 
 pub returns-in_ok-told-in-Timetable-clause-stopped : goal.returns-in_ok-told-in-Timetable-clause-stopped
@@ -50,7 +50,7 @@ returns-in_ok-told-in-Timetable-clause-silent g c =
 
 pub returns-in_err-told-in-Page-clause-stopped : goal.returns-in_err-told-in-Page-clause-stopped
 returns-in_err-told-in-Page-clause-stopped g c =
-    let none = c.in_err-told-in-Page.ensures in
+    let none = c.in_err-told-in-Page.ensures.stopped in
     rw c.in-Page.is (told_as _ _ _ c.from_residual-in_err-told-in-Page.ensures.1 (unless_named _ _ _ none))
 
 pub returns-in_ok-told-in-Page-clause-stopped : goal.returns-in_ok-told-in-Page-clause-stopped

@@ -1,5 +1,5 @@
 use Rattle.std.proofs.Common.{inr}
-use Rattle.pesp_check.proofs.ReadingLemmas.{told_as}
+use Rattle.pesp_check_run.proofs.ReadingLemmas.{told_as}
 use Rattle.pesp_cli.proofs.Ends.{stopped, stopped_from, without_names}
 use Rattle.pesp_cli.proofs.answers.reported.Goals as goal
 

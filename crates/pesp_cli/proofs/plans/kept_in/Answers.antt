@@ -1,5 +1,5 @@
-use Rattle.pesp_check.specs.Devices.{over}
-use Rattle.pesp_check.proofs.ReadingLemmas.{told_as}
+use Rattle.pesp_check_run.specs.Devices.{over}
+use Rattle.pesp_check_run.proofs.ReadingLemmas.{told_as}
 use Rattle.pesp_cli.proofs.Keeping.{kept, kept_on, stopped_kept_on, refused_kept}
 use Rattle.pesp_cli.proofs.plans.kept_in.Goals as goal
 

@@ -4,7 +4,7 @@ use Rattle.std.specs.Int.{w128}
 use Rattle.std.proofs.lemmas.Int.{ints}
 use Rattle.pesp_problem.specs.Arcs.{arc_at}
 use Rattle.pesp_problem.specs.Terms.{number_at}
-use Rattle.pesp_problem.proofs.Integers.{sum_below-more}
+use Rattle.pesp_problem.proofs.RowValues.{sum_more}
 use Rattle.pesp_problem.proofs.Small.{arc_small, kept_lower}
 use Rattle.pesp_leaves.proofs.Kept.{kept}
 use Rattle.pesp_leaves.proofs.terms.lower_sum.Goals as goal
@@ -23,7 +23,7 @@ loop-i-preserved c =
     ≡ to_z w128 c.loop-i.sum-bits +ℤ c.lower_part.result =
     omega (arith, ints, before, size, plus, c.loop-i-test.true, c.requires.arcs.most) in
     record {
-      is = sum_below-more (λ i. number_at c.args.flows.now i *ℤ (arc_at c.args.arcs.now i).lower) i
+      is = sum_more (λ i. number_at c.args.flows.now i *ℤ (arc_at c.args.arcs.now i).lower) i
           (to_z w128 c.loop-i.sum-bits) c.lower_part.result _ c.loop-i.invariant.is here e;
       size = omega (arith, ints, e, size, before);
     }

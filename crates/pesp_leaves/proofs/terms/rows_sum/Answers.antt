@@ -5,7 +5,7 @@ use Rattle.std.proofs.lemmas.Int.{ints}
 use Rattle.pesp_problem.specs.Nodes.{slack_range}
 use Rattle.pesp_problem.specs.Rates.{rates_at}
 use Rattle.pesp_problem.specs.Terms.{number_at, lesser_excess}
-use Rattle.pesp_problem.proofs.Integers.{sum_below-more}
+use Rattle.pesp_problem.proofs.RowValues.{sum_more}
 use Rattle.pesp_leaves.specs.Terms.{unit_cost_left}
 use Rattle.pesp_leaves.proofs.Kept.{kept, kept_short}
 use Rattle.pesp_leaves.proofs.terms.rows_sum.Goals as goal
@@ -44,7 +44,7 @@ loop-i-preserved c =
     ≡ to_z w128 c.loop-i.sum-bits +ℤ c.lesser_excess.result =
     omega (arith, ints, before, size, plus, c.loop-i-test.true, c.requires.few) in
     record {
-      is = sum_below-more (λ i. lesser_excess (unit_cost_left c.args.scale c.args.weighted (number_at c.args.weights.now i)
+      is = sum_more (λ i. lesser_excess (unit_cost_left c.args.scale c.args.weighted (number_at c.args.weights.now i)
           (number_at c.args.flows.now i)) (slack_range c.args.slacks.now i) (rates_at c.args.rates.now i)) i
           (to_z w128 c.loop-i.sum-bits) c.lesser_excess.result _ c.loop-i.invariant.is here e;
       size = omega (arith, ints, e, size, before);

@@ -1,5 +1,5 @@
 use Rattle.std.proofs.Common.{inr}
-use Rattle.pesp_check.proofs.ReadingLemmas.{told_as}
+use Rattle.pesp_check_run.proofs.ReadingLemmas.{told_as}
 use Rattle.pesp_report_run.proofs.fixing.run_fix.Goals as goal
 
 pub returns-in_err-refused-clause-cause : goal.returns-in_err-refused-clause-cause

@@ -1,5 +1,5 @@
 use Rattle.std.proofs.Common.{inr}
-use Rattle.pesp_check.proofs.ReadingLemmas.{told_as}
+use Rattle.pesp_check_run.proofs.ReadingLemmas.{told_as}
 use Rattle.pesp_report_run.proofs.Causes.{timetable_cause}
 use Rattle.pesp_report_run.proofs.sheets.run_sheet.Goals as goal
 

@@ -1,5 +1,5 @@
 use Rattle.std.proofs.Common.{inr}
-use Rattle.pesp_check.proofs.ReadingLemmas.{told_as}
+use Rattle.pesp_check_run.proofs.ReadingLemmas.{told_as}
 use Rattle.pesp_report_run.proofs.Causes.{violations_cause, violations_told}
 use Rattle.pesp_report_run.proofs.violated.run_violations.Goals as goal
 

@@ -10,12 +10,12 @@ use Rattle.pesp_truth.specs.Trees.{Line}
 use Rattle.pesp_truth.specs.Certificates.{least_of}
 use Rattle.pesp_leaves.specs.Taken.{HaveRows}
 use Rattle.pesp_judges.specs.Lines.{IsLineVerdict}
-use Rattle.pesp_whole_check.specs.Rooms.{AreOwnWeights, FitsWalks, claim_from}
+use Rattle.pesp_check.specs.Rooms.{AreOwnWeights, FitsWalks, claim_from}
 use Rattle.pesp_check.specs.Said.{pairs_of, tree_line}
 use Rattle.pesp_check.specs.Views.{kept}
-use Rattle.pesp_whole_check.proofs.Claims.{walks_fit}
-use Rattle.pesp_whole_check.proofs.Refusing.{of_none}
-use Rattle.pesp_whole_check.proofs.Inner.{lent_for}
+use Rattle.pesp_check.proofs.Claims.{walks_fit}
+use Rattle.pesp_check.proofs.Fronts.{of_none}
+use Rattle.pesp_check.proofs.Inner.{lent_for}
 use Rattle.pesp_check.proofs.Lists.{said_is}
 use Rattle.pesp_check.proofs.Lines.{nets_are, answer_is, never_done, never_gone, line_told, whole_text, few_cycles, few_least}
 use Rattle.pesp_check.proofs.judge.Judge.judge_line.Goals as goal

@@ -3,7 +3,7 @@ use Rattle.std.specs.Prelude.{option_map}
 use Rattle.pesp_cert_items.specs.Lent.{item_said}
 use Rattle.pesp_judges.specs.Showing.{kept_of_lemma as kept_lemma}
 use Rattle.pesp_check.specs.Views.{kept}
-use Rattle.pesp_whole_check.proofs.Refusing.{of_none}
+use Rattle.pesp_check.proofs.Fronts.{of_none}
 use Rattle.pesp_check.proofs.LemmaSteps.{shown_behind}
 use Rattle.pesp_check.proofs.judge.Judge.show.Goals as goal
 

@@ -1,5 +1,5 @@
 use Rattle.std.proofs.Common.{inl, inr, refl}
-use Rattle.pesp_check.proofs.ReadingLemmas.{told_as}
+use Rattle.pesp_check_run.proofs.ReadingLemmas.{told_as}
 use Rattle.pesp_tasks.proofs.Causes.{graft}
 use Rattle.pesp_tasks.proofs.graft.GraftOnWorks.write.Goals as goal
 

@@ -1,0 +1,5 @@
+pub mod Devices
+pub mod Verdicts
+pub mod Checking
+pub mod FaultLines
+pub mod Lines

@@ -1,0 +1,127 @@
+//! What the rows of a leaf add to its value, by their flows and their rates.
+
+ghost use Rattle.std.specs.Prelude.{◌≡◌, ℕ, ◌*◌, ◌^◌, ◌<◌, ◌≤◌, length, pos, ◌-ℤ◌, ◌*ℤ◌, unsigned_abs, if◌then◌else◌};
+ghost use Rattle.pesp_problem.specs.declared.limits.TheConstants.{MOST_LOWER, MOST_PERIOD, MOST_WEIGHT};
+ghost use Rattle.pesp_problem.specs.Ranges.{AreSlackEnds};
+ghost use Rattle.pesp_problem.specs.Rates.{AreSmallRates};
+ghost use Rattle.pesp_problem.specs.Terms.{lesser_excess, row_term, rows_sum, AreSmallArcs, AreSmallFlows};
+
+use crate::Arc;
+use crate::exact::{minus, plus, times};
+use crate::rates::Rates;
+
+/// The weight of a row under a scale, or 0 for a leaf without weights.
+fn scaled_weight(weight: u64, weighted: bool, scale: u32) -> i128
+    requires weight { weight ≤ MOST_WEIGHT }
+    requires scale { scale ≤ 1000000 }
+    ensures value { result ≡ pos scale *ℤ (if weighted then pos weight else pos 0) }
+    ensures size { unsigned_abs result ≤ 10 ^ 15 }
+{
+    if weighted {
+        times(i128::from(scale), i128::from(weight))
+    } else {
+        0
+    }
+}
+
+/// What a slack at one end of its range costs beyond the flow and the gains.
+fn excess(left: i128, slack: u32, rate: i128, width: i128) -> i128
+    requires left { unsigned_abs left ≤ 2 * 10 ^ 24 }
+    requires slack { slack ≤ MOST_PERIOD }
+    requires rate { unsigned_abs rate ≤ 10 ^ 28 }
+    requires width { unsigned_abs width ≤ 10000 }
+    ensures value { result ≡ left *ℤ pos slack -ℤ rate *ℤ width }
+    ensures size { unsigned_abs result ≤ 2 * 10 ^ 32 }
+{
+    minus(times(left, i128::from(slack)), times(rate, width))
+}
+
+/// How wide a slack range is.
+fn range_width(range: (u32, u32)) -> i128
+    requires low { range.0 ≤ MOST_PERIOD }
+    requires high { range.1 ≤ MOST_PERIOD }
+    ensures value { result ≡ pos range.1 -ℤ pos range.0 }
+    ensures size { unsigned_abs result ≤ 10000 }
+{
+    minus(i128::from(range.1), i128::from(range.0))
+}
+
+/// The lesser of what a slack at the two ends of its range costs beyond the flow and the gains: only flipped passes gain at
+/// the low end, and only plain ones at the high end.
+fn lesser_excess(left: i128, range: (u32, u32), rates: Rates) -> i128
+    requires left { unsigned_abs left ≤ 2 * 10 ^ 24 }
+    requires low { range.0 ≤ MOST_PERIOD }
+    requires high { range.1 ≤ MOST_PERIOD }
+    requires plain { unsigned_abs rates.plain ≤ 10 ^ 28 }
+    requires flipped { unsigned_abs rates.flipped ≤ 10 ^ 28 }
+    ensures value { result ≡ lesser_excess left range rates }
+    ensures size { unsigned_abs result ≤ 2 * 10 ^ 32 }
+{
+    let width = range_width(range);
+    let low = excess(left, range.0, rates.flipped, width);
+    let high = excess(left, range.1, rates.plain, width);
+    low.min(high)
+}
+
+/// A flow times a lower bound.
+fn lower_part(flow: i128, lower: i64) -> i128
+    requires flow { unsigned_abs flow ≤ 10 ^ 24 }
+    requires lower { unsigned_abs lower ≤ MOST_LOWER }
+    ensures value { result ≡ flow *ℤ lower }
+    ensures size { unsigned_abs result ≤ 2 * 10 ^ 30 }
+{
+    times(flow, i128::from(lower))
+}
+
+/// What a row adds: the lesser of what its slack costs at the two ends of its range, less its flow times its lower bound.
+fn row_term(
+    arc: &Arc,
+    range: (u32, u32),
+    weighted: bool,
+    scale: u32,
+    flow: i128,
+    rates: Rates,
+) -> i128
+    requires lower { unsigned_abs arc.now.lower ≤ MOST_LOWER }
+    requires weight { arc.now.weight ≤ MOST_WEIGHT }
+    requires low { range.0 ≤ MOST_PERIOD }
+    requires high { range.1 ≤ MOST_PERIOD }
+    requires scale { scale ≤ 1000000 }
+    requires flow { unsigned_abs flow ≤ 10 ^ 24 }
+    requires plain { unsigned_abs rates.plain ≤ 10 ^ 28 }
+    requires flipped { unsigned_abs rates.flipped ≤ 10 ^ 28 }
+    ensures value { result ≡ row_term arc.now range weighted scale flow rates }
+    ensures size { unsigned_abs result ≤ 3 * 10 ^ 32 }
+{
+    let left = minus(scaled_weight(arc.weight, weighted, scale), flow);
+    let least = lesser_excess(left, range, rates);
+    minus(least, lower_part(flow, arc.lower))
+}
+
+/// What all rows add to the value of a leaf, by their flows and their rates.
+pub fn rows_sum(
+    arcs: &[Arc],
+    slacks: &[(u32, u32)],
+    weighted: bool,
+    scale: u32,
+    flows: &[i128],
+    rates: &[Rates],
+) -> i128
+    requires arcs { AreSmallArcs arcs.now }
+    requires slacks { AreSlackEnds slacks.now }
+    requires ranges { length slacks.now ≡ length arcs.now }
+    requires flows { length flows.now ≡ length arcs.now }
+    requires rates { length rates.now ≡ length arcs.now }
+    requires scale { scale ≤ 1000000 }
+    requires small_flows { AreSmallFlows flows.now }
+    requires small_rates { AreSmallRates 100000 rates.now }
+    ensures value { result ≡ rows_sum arcs.now slacks.now weighted scale flows.now rates.now }
+    ensures size { unsigned_abs result ≤ 3 * 10 ^ 37 }
+{
+    let mut sum = 0;
+    for i in 0..arcs.len() {
+        let term = row_term(&arcs[i], slacks[i], weighted, scale, flows[i], rates[i]);
+        sum = plus(sum, term);
+    }
+    sum
+}

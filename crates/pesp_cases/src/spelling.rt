@@ -1,88 +1,86 @@
-//! Answers as words, each behind a space.
+//! Answers as words.
 
 use pesp_problem::{Cut, Pair, SignedRow};
 use std::alloc::Global;
 use std::fmt::Display;
 
-/// Tells numbers, as `5 2 0`.
-pub fn tell_list<T: Display>(items: &[T], told: &mut String) -> Option<()> {
+/// Adds a word, behind a space where it isn't the first.
+fn add_word(text: &mut String, word: &str) -> Option<()> {
+    if !text.is_empty() {
+        text.push_str(" ").ok()?;
+    }
+    text.push_str(word).ok()
+}
+
+/// Numbers, as `5 2 0`.
+pub fn spell_list<T: Display>(alloc: Global, items: &[T]) -> Option<String> {
+    let mut text = String::new(alloc);
     for item in items {
-        write!(told, " {item}").ok()?;
+        add_word(&mut text, format!(in alloc; "{item}").ok()?.as_str())?;
     }
-    Some(())
+    Some(text)
 }
 
-/// Tells a number, or `none`.
-pub fn tell_number<T: Display + Copy>(number: Option<T>, told: &mut String) -> Option<()> {
-    match number {
-        Some(number) => write!(told, " {number}").ok(),
-        None => told.push_str(" none").ok(),
-    }
-}
-
-/// Tells ranges, as `0..9 1..2`.
-pub fn tell_ranges<T: Display>(ranges: &[(T, T)], told: &mut String) -> Option<()> {
+/// Ranges, as `0..9 1..2`.
+pub fn spell_ranges<T: Display>(alloc: Global, ranges: &[(T, T)]) -> Option<String> {
+    let mut text = String::new(alloc);
     for (low, high) in ranges {
-        write!(told, " {low}..{high}").ok()?;
+        add_word(&mut text, format!(in alloc; "{low}..{high}").ok()?.as_str())?;
     }
-    Some(())
+    Some(text)
 }
 
-/// Tells cycles with multipliers, as `1 -1 2 3`.
-pub fn tell_pairs(pairs: &[Pair], told: &mut String) -> Option<()> {
+/// Cycles with multipliers, as `1 -1 2 3`.
+pub fn spell_pairs(alloc: Global, pairs: &[Pair]) -> Option<String> {
+    let mut text = String::new(alloc);
     for pair in pairs {
-        let Pair { cycle, mult } = *pair;
-        write!(told, " {cycle} {mult}").ok()?;
+        let cycle = pair.cycle;
+        let mult = pair.mult;
+        add_word(
+            &mut text,
+            format!(in alloc; "{cycle} {mult}").ok()?.as_str(),
+        )?;
     }
-    Some(())
+    Some(text)
 }
 
-/// Tells a row with a sign.
-fn tell_row(row: u32, plus: bool, told: &mut String) -> Option<()> {
+/// A row and whether it has a plus sign.
+fn spell_row(alloc: Global, row: u32, plus: bool) -> Option<String> {
     let sign = if plus { "+" } else { "-" };
-    write!(told, " {sign}{row}").ok()
+    format!(in alloc; "{sign}{row}").ok()
 }
 
-/// Tells signed rows in their order, as `+1 -2`.
-pub fn tell_rows(rows: &[SignedRow], told: &mut String) -> Option<()> {
+/// Signed rows in their order, as `+1 -2`.
+pub fn spell_rows(alloc: Global, rows: &[SignedRow]) -> Option<String> {
+    let mut text = String::new(alloc);
     for row in rows {
-        tell_row(row.row, row.plus, told)?;
+        add_word(&mut text, spell_row(alloc, row.row, row.plus)?.as_str())?;
     }
-    Some(())
+    Some(text)
 }
 
-/// Tells the rows of a closed walk by rising numbers, the first with a plus sign: the same for each way round and each start.
-pub fn tell_round(alloc: Global, rows: &[SignedRow], told: &mut String) -> Option<()> {
-    let mut signs: Vec<(u32, bool)> = rows
-        .iter()
-        .map(|row| (row.row, row.plus))
-        .collect(alloc)
-        .ok()?;
+/// The rows of a closed walk by rising numbers, the first with a plus sign: the same for each way round and each start.
+pub fn spell_round(alloc: Global, rows: &[SignedRow]) -> Option<String> {
+    let mut signs = Vec::new(alloc);
+    for row in rows {
+        signs.push((row.row, row.plus)).ok()?;
+    }
     signs.sort_unstable();
     let forward = signs.first().is_some_and(|first| first.1);
+    let mut text = String::new(alloc);
     for (row, plus) in &signs {
-        tell_row(*row, *plus == forward, told)?;
+        add_word(
+            &mut text,
+            spell_row(alloc, *row, *plus == forward)?.as_str(),
+        )?;
     }
-    Some(())
+    Some(text)
 }
 
-/// Tells a cut, as a certificate's line of a branch.
-pub fn tell_cut(cut: Cut, told: &mut String) -> Option<()> {
+/// A cut, as a certificate's line of a branch.
+pub fn spell_cut(alloc: Global, cut: Cut) -> Option<String> {
     match cut {
-        Cut::Slack { row, k } => write!(told, " s {row} {k}").ok(),
-        Cut::Offset { cycle, k } => write!(told, " o {cycle} {k}").ok(),
+        Cut::Slack { row, k } => format!(in alloc; "s {row} {k}").ok(),
+        Cut::Offset { cycle, k } => format!(in alloc; "o {cycle} {k}").ok(),
     }
-}
-
-/// Adds the lines of a text, each with a `/` for its end.
-pub fn add_joined(bytes: &[u8], told: &mut String) -> Option<()> {
-    for byte in bytes {
-        let letter = if *byte == b'\n' {
-            '/'
-        } else {
-            char::from(*byte)
-        };
-        told.push(letter).ok()?;
-    }
-    Some(())
 }

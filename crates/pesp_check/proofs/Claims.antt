@@ -79,10 +79,11 @@ pub own_weights_there : (front : Option Front) (p : Pesp) (room : Room) (weights
 own_weights_there None p room weights w fits = tt
 own_weights_there (Some f) p room weights w fits = subst (AreOwnWeights p) (sym w) fits.weights
 
-pub room_there : (front : Option Front) (p : Pesp) (room : Room) (rows rates : ℕ) → rows ≡ length p.rows
-    → rates ≡ length room.rates.items → IfSome front (λ _. FitsRoom p room) → IfSome front (λ _. rates ≡ rows)
-room_there None p room rows rates e r fits = tt
-room_there (Some f) p room rows rates e r fits = r ∙ fits.rates ∙ sym e
+pub room_there : (front : Option Front) (p : Pesp) (room : Room) (rows taken rates : ℕ) → rows ≡ length p.rows
+    → taken ≡ length room.taken.items → rates ≡ length room.rates.items → IfSome front (λ _. FitsRoom p room)
+    → IfSome front (λ _. (taken ≡ rows) × (rates ≡ rows))
+room_there None p room rows taken rates e t r fits = tt
+room_there (Some f) p room rows taken rates e t r fits = (t ∙ fits.taken ∙ sym e, r ∙ fits.rates ∙ sym e)
 
 -- ---- what is told
 

@@ -28,9 +28,10 @@ abbrev pub claim_from : Option Marks → List Lemma → Net → Option ℕ → C
 claim_from None facts n least = Plain least
 claim_from (Some marks) facts n least = Behind marks facts (cost_goal n least)
 
--- the arcs and the weights are the instance's, and there are rates for each row
+-- the arcs and the weights are the instance's, and there is a working number of either kind for each row
 pub record FitsRoom (p : Pesp) (room : Room) : Type 0 where
   pub arcs : room.arcs.items ≡ arcs_of p
   pub weights : AreOwnWeights p room.weights.items
   pub small : AreSmallWeights room.weights.items
+  pub taken : length room.taken.items ≡ length p.rows
   pub rates : length room.rates.items ≡ length p.rows

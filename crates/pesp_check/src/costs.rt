@@ -86,6 +86,7 @@ fn cost_at<P: Elements<Pair>>(
     ranges: &Ranges,
     pairs: P,
     flows: &mut [i128],
+    taken: &mut [i128],
     rates: &mut [Rates],
 ) -> Option<u64>
     requires ranges { AreRanges checker.now.instance.now ranges.now }
@@ -93,7 +94,7 @@ fn cost_at<P: Elements<Pair>>(
     requires named { NamesTold checker.now.claim (length checker.now.table.now) (P.elements pairs) }
     requires limits { ArePairLimits (P.elements pairs) }
     requires long { length flows.old ≡ length checker.now.instance.now.rows }
-    requires room { HasRoom checker.now.claim (length checker.now.instance.now.rows) (length rates.old) }
+    requires room { HasRoom checker.now.claim (length checker.now.instance.now.rows) (length taken.old) (length rates.old) }
     requires zeros { AreZeros flows.old }
     ensures shown { (walks : List (List SignedRow)) (claim : trees.Claim)
         → AreNets (length checker.now.instance.now.rows) walks checker.now.table.now
@@ -102,7 +103,7 @@ fn cost_at<P: Elements<Pair>>(
     ensures zeros { AreZeros flows.new }
 {
     let more = names_more(checker.table.len(), pairs);
-    let value = value_of(checker, ranges, pairs, more, true, flows, rates);
+    let value = value_of(checker, ranges, pairs, more, true, flows, taken, rates);
     shown_by(value, scale_of(&checker.claim, more))
 }
 
@@ -112,6 +113,7 @@ fn leaf_cost<P: Elements<Pair>>(
     ranges: &Ranges,
     leaf: LeafLine<P>,
     flows: &mut [i128],
+    taken: &mut [i128],
     rates: &mut [Rates],
 ) -> Option<u64>
     requires ranges { AreRanges checker.now.instance.now ranges.now }
@@ -119,7 +121,7 @@ fn leaf_cost<P: Elements<Pair>>(
     requires named { LeafIsNamed checker.now.claim (length checker.now.table.now) (leaf_said P.elements leaf) }
     requires limits { KeepsLeafLimits P.elements leaf }
     requires long { length flows.old ≡ length checker.now.instance.now.rows }
-    requires room { HasRoom checker.now.claim (length checker.now.instance.now.rows) (length rates.old) }
+    requires room { HasRoom checker.now.claim (length checker.now.instance.now.rows) (length taken.old) (length rates.old) }
     requires zeros { AreZeros flows.old }
     ensures shown { (walks : List (List SignedRow)) (claim : trees.Claim)
         → AreNets (length checker.now.instance.now.rows) walks checker.now.table.now
@@ -128,7 +130,7 @@ fn leaf_cost<P: Elements<Pair>>(
     ensures zeros { AreZeros flows.new }
 {
     match leaf {
-        LeafLine::Bound(pairs) => cost_at(checker, ranges, pairs, flows, rates),
+        LeafLine::Bound(pairs) => cost_at(checker, ranges, pairs, flows, taken, rates),
         LeafLine::Nothing(_) | LeafLine::Gap(_) => None,
     }
 }
@@ -139,6 +141,7 @@ fn pass_leaf<P: Elements<Pair>>(
     walk: &mut NodeWalk<'_>,
     leaf: LeafLine<P>,
     flows: &mut [i128],
+    taken: &mut [i128],
     rates: &mut [Rates],
 ) -> Option<u64>
     requires problem { walk.old.problem ≡ checker.now.instance.now }
@@ -147,7 +150,7 @@ fn pass_leaf<P: Elements<Pair>>(
     requires named { LeafIsNamed checker.now.claim (length checker.now.table.now) (leaf_said P.elements leaf) }
     requires limits { KeepsLeafLimits P.elements leaf }
     requires long { length flows.old ≡ length checker.now.instance.now.rows }
-    requires room { HasRoom checker.now.claim (length checker.now.instance.now.rows) (length rates.old) }
+    requires room { HasRoom checker.now.claim (length checker.now.instance.now.rows) (length taken.old) (length rates.old) }
     requires zeros { AreZeros flows.old }
     ensures problem { walk.new.problem ≡ checker.now.instance.now }
     ensures cycles { walk.new.cycles ≡ length checker.now.table.now }
@@ -159,7 +162,7 @@ fn pass_leaf<P: Elements<Pair>>(
     ensures nodes { walk.new.nodes ≡ drop 1 walk.old.nodes }
     ensures zeros { AreZeros flows.new }
 {
-    let shown = leaf_cost(checker, walk.ranges(), leaf, flows, rates);
+    let shown = leaf_cost(checker, walk.ranges(), leaf, flows, taken, rates);
     walk.leaf();
     shown
 }
@@ -170,6 +173,7 @@ fn pass_line<P: Elements<Pair>>(
     walk: &mut NodeWalk<'_>,
     said: SaidLine<P>,
     flows: &mut [i128],
+    taken: &mut [i128],
     rates: &mut [Rates],
 ) -> Result<Option<u64>, AllocError>
     requires problem { walk.old.problem ≡ checker.now.instance.now }
@@ -179,7 +183,7 @@ fn pass_line<P: Elements<Pair>>(
         (line_said P.elements said) }
     requires limits { KeepsSaidLimits P.elements said }
     requires long { length flows.old ≡ length checker.now.instance.now.rows }
-    requires room { HasRoom checker.now.claim (length checker.now.instance.now.rows) (length rates.old) }
+    requires room { HasRoom checker.now.claim (length checker.now.instance.now.rows) (length taken.old) (length rates.old) }
     requires zeros { AreZeros flows.old }
     ensures problem { walk.new.problem ≡ checker.now.instance.now }
     ensures cycles { walk.new.cycles ≡ length checker.now.table.now }
@@ -193,7 +197,7 @@ fn pass_line<P: Elements<Pair>>(
     ensures zeros { AreZeros flows.new }
 {
     match said {
-        SaidLine::Leaf(leaf) => Ok(pass_leaf(checker, walk, leaf, flows, rates)),
+        SaidLine::Leaf(leaf) => Ok(pass_leaf(checker, walk, leaf, flows, taken, rates)),
         SaidLine::Branch(cut) => {
             walk.branch(cut)?;
             Ok(None)
@@ -212,6 +216,7 @@ fn tree_costs(
     front: &Option<Front>,
     certificate: &Certificate,
     flows: &mut [i128],
+    taken: &mut [i128],
     rates: &mut [Rates],
 ) -> Result<Vec<Option<u64>>, AllocError>
     requires nets { AreNets (length checker.now.instance.now.rows) certificate.now.cycles
@@ -219,7 +224,7 @@ fn tree_costs(
     requires told { TellsOf checker.now.claim (claim_of front.now (net_of checker.now.instance.now) (spec.least_of certificate.now.answer)) }
     requires sound { IsSoundTree front.now checker.now.instance.now certificate.now }
     requires long { length flows.old ≡ length checker.now.instance.now.rows }
-    requires room { HasRoom checker.now.claim (length checker.now.instance.now.rows) (length rates.old) }
+    requires room { HasRoom checker.now.claim (length checker.now.instance.now.rows) (length taken.old) (length rates.old) }
     requires zeros { AreZeros flows.old }
     ensures { IfOk result (λ shown. shown.items
         ≡ shown_of checker.now.instance.now (record { front = front.now; content = certificate.now })) }
@@ -228,7 +233,7 @@ fn tree_costs(
     let mut walk = NodeWalk::new(alloc, checker.instance, ranges);
     let mut shown = Vec::new(alloc);
     for line in certificate.tree() {
-        let cost = pass_line(checker, &mut walk, said_by(line), flows, rates)?;
+        let cost = pass_line(checker, &mut walk, said_by(line), flows, taken, rates)?;
         shown.push(cost)?;
     }
     Ok(shown)
@@ -275,7 +280,8 @@ pub fn costs_shown(
     let least = own.answer().least();
     let claim = claim_over(marks_of(front), &facts, &room.arcs, &room.weights, least);
     let checker = Checker::new(instance, &table, claim);
+    let taken = &mut room.taken;
     let rates = &mut room.rates;
-    let shown = tree_costs(alloc, &checker, front, own, &mut working, rates)?;
+    let shown = tree_costs(alloc, &checker, front, own, &mut working, taken, rates)?;
     Ok(shown)
 }

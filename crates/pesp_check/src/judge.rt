@@ -298,8 +298,11 @@ impl<'a> Judge<'a> {
             least,
         );
         let checker = Checker::new(self.instance, &self.table, claim);
+        let taken = &mut self.room.taken;
         let rates = &mut self.room.rates;
-        let found = take_line(alloc, &checker, walk, said, self.line, working, rates)?;
+        let found = take_line(
+            alloc, &checker, walk, said, self.line, working, taken, rates,
+        )?;
         if let Some(refusal) = found {
             self.stage = Stage::Refused(refusal);
             return Ok(());
@@ -446,7 +449,7 @@ impl<'a> Judge<'a> {
                 return Ok(());
             }
         };
-        drop(self.lemma.replace(lemma));
+        self.lemma = Some(lemma);
         Ok(())
     }
 
@@ -478,7 +481,7 @@ impl<'a> Judge<'a> {
         };
         let found = show_line(alloc, lemma, &self.facts, line, self.line, working)?;
         if let Some(refusal) = found {
-            drop(self.lemma.take());
+            self.lemma = None;
             self.stage = Stage::Refused(refusal);
             return Ok(());
         }

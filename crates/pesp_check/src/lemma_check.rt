@@ -168,42 +168,8 @@ fn judge_of<'a>(
     };
     judge.take_least(lemma.least);
     judge.take_scale(lemma.scale);
-    match take_walks(alloc, &mut judge, &lemma.walks) {
-        Ok(()) => Ok(Ok(judge)),
-        Err(refused) => {
-            drop(judge);
-            Err(refused)
-        }
-    }
-}
-
-/// What is wrong with the cycles, the marked walks or the tree of a lemma.
-fn parts_fault(
-    alloc: Global,
-    judge: &mut LemmaJudge<'_>,
-    facts: &[Lemma],
-    lemma: &ShownLemma,
-    at: u64,
-    working: &mut [i128],
-) -> Result<Option<Refusal>, Memory>
-    requires limits { is_shown_lemma lemma.now ≡ true }
-    requires rows { HaveRows (length judge.old.instance.now.rows) facts.now }
-    requires line { at < 2 ^ 61 }
-    requires begun { CyclesShown judge.old.instance.now lemma.now at (kept_of_lemma judge.old) 0 }
-    requires long { length working.old ≡ length judge.old.instance.now.rows }
-    requires zeros { AreZeros working.old }
-    ensures verdict { IfOk result (λ found. MatchOption found
-        (ShownTo judge.old.instance.now facts.now lemma.now at (kept_of_lemma judge.new) (length lemma.now.tree))
-        (λ refusal. IsLemmaFault (net_of judge.old.instance.now) facts.now lemma.now at refusal)) }
-    ensures zeros { OnOk result (AreZeros working.new) }
-{
-    let line = at + 2 + lemma.walks.len() as u64;
-    let found = cycles_fault(alloc, judge, &lemma.cycles, line, working)?;
-    if let Some(refusal) = found {
-        return Ok(Some(refusal));
-    }
-    let first = line + 1 + lemma.cycles.len() as u64;
-    lines_fault(alloc, judge, facts, &lemma.tree, first, working)
+    take_walks(alloc, &mut judge, &lemma.walks)?;
+    Ok(Ok(judge))
 }
 
 /// The lemma whose rows stand in the line `at`, where it is shown from those before it, or what is wrong with it.
@@ -229,12 +195,17 @@ fn judge_lemma(
         Ok(judge) => judge,
         Err(refusal) => return Ok(Err(refusal)),
     };
-    let found = parts_fault(alloc, &mut judge, facts, lemma, at, working);
-    let fact = judge.into_lemma();
-    match found? {
-        None => Ok(Ok(fact)),
-        Some(refusal) => Ok(Err(refusal)),
+    let line = at + 2 + lemma.walks.len() as u64;
+    let found = cycles_fault(alloc, &mut judge, &lemma.cycles, line, working)?;
+    if let Some(refusal) = found {
+        return Ok(Err(refusal));
     }
+    let first = line + 1 + lemma.cycles.len() as u64;
+    let found = lines_fault(alloc, &mut judge, facts, &lemma.tree, first, working)?;
+    if let Some(refusal) = found {
+        return Ok(Err(refusal));
+    }
+    Ok(Ok(judge.into_lemma()))
 }
 
 /// How many lines say and show a lemma.

@@ -1,4 +1,4 @@
-//! What leaves of a tree ask for behind a front. The arcs and the weights of the instance, and rates.
+//! What the leaves of a certificate's tree ask for behind a front: the arcs and the weights of the instance, and working numbers.
 
 ghost use Rattle.std.specs.Prelude.{◌≡◌, ℕ, ◌<◌, ◌≤◌, pos, length, IfOk, IfSome, IsTrue, option_map, option_copied};
 ghost use Rattle.std.specs.Option.{ForSome};
@@ -9,17 +9,17 @@ ghost use Rattle.pesp_leaves.specs.Claims.{FitsClaim, HasRoom, TellsOf};
 ghost use Rattle.pesp_leaves.specs.Taken.{HaveRows, AreSmallWeights};
 ghost use Rattle.pesp_check.specs.Rooms.{AreOwnWeights, FitsRoom, FitsWalks, claim_from};
 
-use pesp_judges::{Claim, Shown};
+use pesp_judges::{Claim, Shown, zeros};
 use pesp_problem::{Arc, Instance, Memory, Rates, Row, no_rates};
 use pesp_truth::{Lemma, Marks};
 use std::alloc::{AllocError, Global};
 
-/// An instance's arcs, the weights of its rows, and rates that leaves add up. There are as many rates as rows. All are empty
-/// without a front.
+/// The arcs of an instance, the weights of its rows, and numbers that leaves add up, one a row; all are empty without a front.
 #[derive(Drop)]
 pub(crate) struct Room {
     pub arcs: Vec<Arc>,
     pub weights: Vec<i64>,
+    pub taken: Vec<i128>,
     pub rates: Vec<Rates>,
 }
 
@@ -49,6 +49,7 @@ impl Room {
         Room {
             arcs: Vec::new(alloc),
             weights: Vec::new(alloc),
+            taken: Vec::new(alloc),
             rates: Vec::new(alloc),
         }
     }
@@ -60,10 +61,12 @@ impl Room {
         let rows = instance.rows().len();
         let arcs = instance.arcs(alloc)?;
         let weights = own_weights(alloc, instance)?;
+        let taken = zeros(alloc, rows)?;
         let rates = no_rates(alloc, rows)?;
         Ok(Room {
             arcs,
             weights,
+            taken,
             rates,
         })
     }
@@ -106,7 +109,7 @@ pub(crate) fn claim_over<'a>(
         → ForSome marks.entry (λ m. FitsWalks p m.now arcs.now weights.now) → FitsClaim p result }
     ensures told { (p : Pesp) → ForSome marks.entry (λ m. AreOwnWeights p weights.now) → IfSome least (λ c. c < 1000000000000000000)
         → TellsOf result (claim_from (option_copied marks.entry) facts.now (net_of p) least) }
-    ensures room { (rows rates : ℕ) → ForSome marks.entry (λ m. rates ≡ rows) → HasRoom result rows rates }
+    ensures room { (rows taken rates : ℕ) → ForSome marks.entry (λ m. (taken ≡ rows) × (rates ≡ rows)) → HasRoom result rows taken rates }
 {
     let Some(marks) = marks else {
         return Claim::Plain(least);

@@ -73,8 +73,9 @@ fn tree_fault(
     let claim = claim_over(marks_of(front), facts, &room.arcs, &room.weights, least);
     let checker = Checker::new(instance, table, claim);
     let lines = certificate.tree();
+    let taken = &mut room.taken;
     let rates = &mut room.rates;
-    Ok(judge_tree(alloc, &checker, lines, first, working, rates)?)
+    Ok(judge_tree(alloc, &checker, lines, first, working, taken, rates)?)
 }
 
 /// The first fault of the marked walks, or of the tree, where all cycles are walks.

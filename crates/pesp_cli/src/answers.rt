@@ -1,41 +1,36 @@
 //! What the program does for each request, over any readers and writers.
 
-ghost use Rattle.std.specs.Prelude.{◌≡◌, ◌≢◌, ◌<◌, ◌≤◌, ◌^◌, Ok, Err, is_some, IfOk, IfErr, MatchResult};
+ghost use Rattle.std.specs.Prelude.{◌≡◌, ◌≢◌, ◌<◌, ◌≤◌, ◌^◌, Ok, Err, IfOk, IfErr, MatchResult};
 ghost use Rattle.std.specs.Io.KnownBytes.{Appends};
 ghost use Rattle.pesp_problem.specs.declared.limits.TheConstants.{MOST_STEPS};
 ghost use Rattle.pesp_stream.specs.Counts.{FewerThan};
 ghost use Rattle.pesp_check_run.specs.Devices.{over};
-ghost use Rattle.pesp_check_run.specs.Verdicts.{verdict_status};
-ghost use Rattle.pesp_runs.specs.FaultLines.{verdict_fault};
 ghost use Rattle.pesp_runs.specs.Runs.{OverBase, OverBaseCause};
 ghost use Rattle.pesp_request.specs.Requests.{InstanceWithin, CertificateWithin, LeavesWithin};
-ghost use Rattle.pesp_cli.specs.Answers.{AnswersConflict, AnswersSearch, AnswersInstance, AnswersCertificate, AnswersLeaves, AnswersTimes, AnswersReport, AnswersViolations, AnswersFix, AnswersWorks, violations_status};
-ghost use Rattle.pesp_report_run.specs.Fixing.{FixCause};
-ghost use Rattle.pesp_cli.specs.Stops.{OrNoNames, OrNamesOf, StopsConflict, StopsSearch, StopsInstance, StopsCertificate, StopsLeaves, StopsTimes, StopsReport, StopsViolations, StopsWorks};
+ghost use Rattle.pesp_cli.specs.Answers.{AnswersConflict, AnswersSearch, AnswersInstance, AnswersCertificate, AnswersLeaves, AnswersTimes, AnswersViolations, AnswersFix, AnswersWorks, violations_status};
+ghost use Rattle.pesp_cli.specs.Stops.{OrNoNames, StopsConflict, StopsSearch, StopsInstance, StopsCertificate, StopsLeaves, StopsTimes, StopsViolations, StopsFix, StopsWorks};
 
 use crate::headed::Headed;
 use crate::input::{Beginning, warn_of_period};
 use crate::plans::of_plan;
 use crate::telling::{tell_sums, told_conflict, told_fix};
-use pesp_check_run::{VerdictFault, run_check, run_check_sharp, status_of_verdict};
-use pesp_judges::Verdict;
-use pesp_plan::{Lockable, Teller, Watch};
+use pesp_check_run::{run_check, run_check_sharp, status_of_verdict};
+use pesp_plan::Lockable;
+use pesp_progress::{Teller, Watch};
 use pesp_report::Names;
 use pesp_report_run::{
-    NamedReport, Report, Timetable, View, Wanted, read_whole_names, run_conflict, run_fix,
-    run_sheet, run_violations, status_of_told,
+    Diagrams, HtmlPage, NamedReport, Picture, Report, Timetable, read_whole_names, run_conflict,
+    run_fix, run_sheet, run_violations, status_of_told,
 };
 use pesp_request::{OfCertificate, OfInstance, OfLeaves, OfTimes, OfWorks};
-use pesp_runs::{
-    Fault, FromTimetable, OnBase, Search, Start, run_alone, run_from_times, run_on_base,
-    run_on_works,
-};
+use pesp_runs::{Fault, OnBase, Search, run_alone, run_from_times, run_on_base};
 use pesp_sharp_search::Sharpener;
 use pesp_stream::{Counted, Sink, Source};
 use pesp_tasks::{
-    Gap, GapJson, GraftSharp, Resume, ResumeSharp, Solve, SolveSharp, Split, SplitSharp, WorkSharp,
-    WorkTask, run_graft,
+    Gap, GapJson, Resume, ResumeSharp, Solve, SolveSharp, Split, SplitSharp, WorkSharp, WorkTask,
+    run_graft, run_graft_sharp,
 };
+use pesp_timetable::Wanted;
 use std::alloc::Global;
 use std::fs::File;
 use std::rt::{Clock, Files};
@@ -50,37 +45,26 @@ pub(crate) fn done(run: Result<(), Fault>) -> Result<u8, Fault>
     }
 }
 
-/// The status of a run that judges a certificate: that of its verdict.
-fn judged(run: Result<Verdict, VerdictFault>) -> Result<u8, Fault>
-    ensures { MatchResult run (λ verdict. result ≡ Ok (verdict_status verdict)) (λ fault. result ≡ Err (verdict_fault fault)) }
-{
-    match run {
-        Ok(verdict) => Ok(status_of_verdict(verdict)),
-        Err(found) => Err(Fault::from(found)),
-    }
-}
-
 /// Searches for the instance that the reader gives, from the times in a file where one is named.
 #[tactic(auto, using(crate::proofs::Ends::finished))]
-pub(crate) fn search<R: AllocGlobal + Eprint + Files, I: Source, W: Sink, S: Search, N: Start>(
+pub(crate) fn search<R: AllocGlobal + Eprint + Files, I: Source, W: Sink, S: Search>(
     rt: &R,
     reader: &mut I,
     writer: &mut W,
     period: u32,
     from: Option<&str>,
     task: &mut S,
-    start: &mut N,
 ) -> Result<u8, Fault>
     requires within { S.within task.old }
     requires reads_fit { FewerThan (2 ^ 62) (I.calls reader.old) }
     requires writes_fit { FewerThan (2 ^ 62) (W.calls writer.old) }
-    ensures answered { IfOk result (AnswersSearch N.reads (S.writes task.old task.new) from.entry period
+    ensures answered { IfOk result (AnswersSearch (S.writes task.old task.new) from.entry period
         (over (I.remaining reader.old) (I.remaining reader.new)
         (I.calls reader.old) (I.calls reader.new))
         (over (W.contents writer.old) (W.contents writer.new)
         (W.calls writer.old) (W.calls writer.new))) }
-    ensures stopped { IfErr result (λ fault. StopsSearch N.reads N.refused (S.stops task.old) (S.writes task.old task.new)
-        from.entry fault period
+    ensures stopped { IfErr result (λ fault. StopsSearch (S.stops task.old) (S.writes task.old task.new) from.entry
+        fault period
         (over (I.remaining reader.old) (I.remaining reader.new)
         (I.calls reader.old) (I.calls reader.new))
         (over (W.contents writer.old) (W.contents writer.new)
@@ -92,14 +76,14 @@ pub(crate) fn search<R: AllocGlobal + Eprint + Files, I: Source, W: Sink, S: Sea
         None => done(run_alone(alloc, task, reader, writer, period)),
         Some(file) => {
             let mut times = opened_times(rt, file)?;
-            let run = run_from_times(alloc, task, start, reader, &mut times, writer, period);
+            let run = run_from_times(alloc, task, reader, &mut times, writer, period);
             warn_of_period(rt, &times.into_inner(), period);
             done(run)
         }
     }
 }
 
-/// Looks for a conflict in the reader's instance. Tells it with names where a file is named.
+/// Looks for a conflict in the instance that the reader gives, and tells it with the names in a file where one is named.
 fn conflict<R: AllocGlobal + Eprint + Files, I: Source, W: Sink, E: Sink, F: Sharpener + Drop>(
     rt: &R,
     reader: &mut I,
@@ -130,23 +114,35 @@ fn conflict<R: AllocGlobal + Eprint + Files, I: Source, W: Sink, E: Sink, F: Sha
     ensures silent { IfErr result (λ fault. fault ≢ Fault.Write → writer.new ≡ writer.old) }
 {
     let alloc = rt.alloc();
-    let names = names_of(rt, names)?;
     let mut sums = String::new(alloc);
-    let run = run_conflict(
-        alloc,
-        reader,
-        writer,
-        period,
-        steps,
-        names.as_ref(),
-        &mut sums,
-        &mut sharpener,
-    );
-    drop(names);
-    let told = run?;
-    told_conflict(teller, told);
-    tell_sums(rt, &sums);
-    Ok(status_of_told(told))
+    match names {
+        None => {
+            let finder = &mut sharpener;
+            let told = run_conflict(
+                alloc, reader, writer, period, steps, None, &mut sums, finder,
+            )?;
+            told_conflict(teller, told);
+            Ok(status_of_told(told))
+        }
+        Some(file) => {
+            let names = names_in(rt, file)?;
+            let run = run_conflict(
+                alloc,
+                reader,
+                writer,
+                period,
+                steps,
+                Some(&names),
+                &mut sums,
+                &mut sharpener,
+            );
+            drop(names);
+            let told = run?;
+            told_conflict(teller, told);
+            tell_sums(rt, &sums);
+            Ok(status_of_told(told))
+        }
+    }
 }
 
 /// Does what is asked of the instance that the reader gives.
@@ -186,7 +182,6 @@ where
         (W.calls writer.old) (W.calls writer.new))) }
     ensures silent { IfErr result (λ fault. fault ≢ Fault.Write → writer.new ≡ writer.old) }
 {
-    let timetable = &mut FromTimetable;
     match asked {
         OfInstance::Solve {
             steps,
@@ -198,7 +193,7 @@ where
                 finder: sharpener,
                 observer: Teller::begin(rt, progress),
             };
-            let answer = search(rt, reader, writer, period, from, &mut task, timetable);
+            let answer = search(rt, reader, writer, period, from, &mut task);
             drop(task);
             answer
         }
@@ -212,7 +207,7 @@ where
                 sharpener,
                 observer: Teller::begin(rt, progress),
             };
-            let answer = search(rt, reader, writer, period, from, &mut sharp, timetable);
+            let answer = search(rt, reader, writer, period, from, &mut sharp);
             drop(sharp);
             answer
         }
@@ -296,9 +291,13 @@ pub(crate) fn of_certificate<
 {
     let alloc = rt.alloc();
     match asked {
-        OfCertificate::Check => judged(run_check(alloc, instance, reader, writer, period)),
+        OfCertificate::Check => {
+            let verdict = run_check(alloc, instance, reader, writer, period)?;
+            Ok(status_of_verdict(verdict))
+        }
         OfCertificate::CheckSharp => {
-            judged(run_check_sharp(alloc, instance, reader, writer, period))
+            let judged = run_check_sharp(alloc, instance, reader, writer, period)?;
+            Ok(status_of_verdict(judged))
         }
         OfCertificate::Gap => on_base(alloc, instance, reader, writer, period, &mut Gap),
         OfCertificate::GapJson => { on_base(alloc, instance, reader, writer, period, &mut GapJson) }
@@ -307,12 +306,15 @@ pub(crate) fn of_certificate<
             seconds,
             progress,
         } => {
+            let watcher = Watch::new(rt, progress, seconds);
             let mut task = Resume {
                 steps,
                 sharpener,
-                watcher: Watch::new(rt, progress, seconds),
+                watcher,
             };
-            on_base(alloc, instance, reader, writer, period, &mut task)
+            let answer = on_base(alloc, instance, reader, writer, period, &mut task);
+            drop(task);
+            answer
         }
         OfCertificate::ResumeSharp {
             steps,
@@ -326,7 +328,9 @@ pub(crate) fn of_certificate<
                 sharpener,
                 watcher: Watch::new(rt, progress, seconds),
             };
-            on_base(alloc, instance, reader, writer, period, &mut task)
+            let answer = on_base(alloc, instance, reader, writer, period, &mut task);
+            drop(task);
+            answer
         }
         OfCertificate::Split => on_base(alloc, instance, reader, writer, period, &mut Split),
         OfCertificate::SplitSharp => {
@@ -395,7 +399,7 @@ pub(crate) fn of_leaves<R: AllocGlobal, I: Source, S: Source, W: Sink, F: Sharpe
     }
 }
 
-/// Lists activities that the reader's times violate, with names where a file is named.
+/// Lists the activities that the times of the reader violate, with the names in a file where one is named.
 fn violated<R: AllocGlobal + Files, I: Source, S: Source, W: Sink>(
     rt: &R,
     instance: &mut I,
@@ -425,55 +429,22 @@ fn violated<R: AllocGlobal + Files, I: Source, S: Source, W: Sink>(
     ensures silent { IfErr result (λ fault. fault ≢ Fault.Write → writer.new ≡ writer.old) }
 {
     let alloc = rt.alloc();
-    let told = names_of(rt, names)?;
-    let run = run_violations(alloc, instance, reader, writer, period, told.as_ref());
-    drop(told);
-    let count = run?;
-    Ok(status_of_violations(count))
-}
-
-/// Writes the report of the reader's times, with names where a file is named.
-#[tactic(auto, using(crate::proofs::Ends::finished))]
-fn reported<R: AllocGlobal + Files, I: Source, S: Source, W: Sink>(
-    rt: &R,
-    instance: &mut I,
-    reader: &mut S,
-    writer: &mut W,
-    period: u32,
-    names: Option<&str>,
-) -> Result<u8, Fault>
-    requires instance_fits { FewerThan (2 ^ 62) (I.calls instance.old) }
-    requires reads_fit { FewerThan (2 ^ 62) (S.calls reader.old) }
-    requires writes_fit { FewerThan (2 ^ 62) (W.calls writer.old) }
-    ensures answered { IfOk result (AnswersReport names.entry period
-        (over (I.remaining instance.old) (I.remaining instance.new)
-        (I.calls instance.old) (I.calls instance.new))
-        (over (S.remaining reader.old) (S.remaining reader.new)
-        (S.calls reader.old) (S.calls reader.new))
-        (over (W.contents writer.old) (W.contents writer.new)
-        (W.calls writer.old) (W.calls writer.new))) }
-    ensures stopped { IfErr result (λ fault. StopsReport names.entry fault period
-        (over (I.remaining instance.old) (I.remaining instance.new)
-        (I.calls instance.old) (I.calls instance.new))
-        (over (S.remaining reader.old) (S.remaining reader.new)
-        (S.calls reader.old) (S.calls reader.new))
-        (over (W.contents writer.old) (W.contents writer.new)
-        (W.calls writer.old) (W.calls writer.new))
-        (reader.new ≡ reader.old)) }
-    ensures silent { IfErr result (λ fault. fault ≢ Fault.Write → writer.new ≡ writer.old) }
-{
-    let alloc = rt.alloc();
     match names {
-        None => done(run_sheet(alloc, &Report, instance, reader, writer, period)),
+        None => {
+            let count = run_violations(alloc, instance, reader, writer, period, None)?;
+            Ok(status_of_violations(count))
+        }
         Some(file) => {
             let names = names_in(rt, file)?;
-            let sheet = NamedReport(&names);
-            done(run_sheet(alloc, &sheet, instance, reader, writer, period))
+            let run = run_violations(alloc, instance, reader, writer, period, Some(&names));
+            drop(names);
+            let count = run?;
+            Ok(status_of_violations(count))
         }
     }
 }
 
-/// Fixes what is wanted in the instance, with names where a file is named. Tells on standard error why that can't be had.
+/// Fixes what is wanted in the instance, with the names in a file where one is named; tells on standard error why that can't be had.
 fn fix<R: AllocGlobal + Eprint + Files, I: Source, S: Source, W: Sink>(
     rt: &R,
     instance: &mut I,
@@ -493,30 +464,38 @@ fn fix<R: AllocGlobal + Eprint + Files, I: Source, S: Source, W: Sink>(
         (S.calls reader.old) (S.calls reader.new))
         (over (W.contents writer.old) (W.contents writer.new)
         (W.calls writer.old) (W.calls writer.new))) }
-    ensures stopped { IfErr result (λ fault. OrNamesOf names.entry fault (FixCause fault
+    ensures stopped { IfErr result (λ fault. StopsFix names.entry fault period
         (over (I.remaining instance.old) (I.remaining instance.new)
         (I.calls instance.old) (I.calls instance.new))
         (over (S.remaining reader.old) (S.remaining reader.new)
         (S.calls reader.old) (S.calls reader.new))
         (over (W.contents writer.old) (W.contents writer.new)
         (W.calls writer.old) (W.calls writer.new))
-        period (reader.new ≡ reader.old))) }
+        (reader.new ≡ reader.old)) }
     ensures silent { IfErr result (λ fault. fault ≢ Fault.Write → writer.new ≡ writer.old) }
 {
     let alloc = rt.alloc();
-    let told = names_of(rt, names)?;
-    let run = run_fix(
-        alloc,
-        instance,
-        reader,
-        writer,
-        period,
-        told.as_ref(),
-        wanted,
-    );
-    drop(told);
-    let refused = run?;
-    Ok(told_fix(rt, refused))
+    match names {
+        None => {
+            let refused = run_fix(alloc, instance, reader, writer, period, None, wanted)?;
+            Ok(told_fix(rt, refused))
+        }
+        Some(file) => {
+            let names = names_in(rt, file)?;
+            let run = run_fix(
+                alloc,
+                instance,
+                reader,
+                writer,
+                period,
+                Some(&names),
+                wanted,
+            );
+            drop(names);
+            let refused = run?;
+            Ok(told_fix(rt, refused))
+        }
+    }
 }
 
 /// Does what is asked of the times that the reader gives, for the instance of the other reader.
@@ -552,23 +531,56 @@ pub(crate) fn of_times<R: AllocGlobal + Eprint + Files, I: Source, S: Source, W:
     let alloc = rt.alloc();
     match asked {
         OfTimes::Violations { names } => { violated(rt, instance, reader, writer, period, names) }
-        OfTimes::Report { names } => reported(rt, instance, reader, writer, period, names),
-        OfTimes::Picture { rows, names: file } => {
-            let told = names_of(rt, file)?;
-            let names = told.as_ref();
-            let sheet = View::Picture { rows, names };
-            done(run_sheet(alloc, &sheet, instance, reader, writer, period))
+        OfTimes::Report { names: None } => {
+            done(run_sheet(alloc, &Report, instance, reader, writer, period))
+        }
+        OfTimes::Report { names: Some(file) } => {
+            let names = names_in(rt, file)?;
+            done(run_sheet(
+                alloc,
+                &NamedReport(&names),
+                instance,
+                reader,
+                writer,
+                period,
+            ))
+        }
+        OfTimes::Picture { rows, names: None } => {
+            let picture = Picture { rows, names: None };
+            done(run_sheet(alloc, &picture, instance, reader, writer, period))
+        }
+        OfTimes::Picture {
+            rows,
+            names: Some(file),
+        } => {
+            let names = names_in(rt, file)?;
+            let picture = Picture {
+                rows,
+                names: Some(&names),
+            };
+            done(run_sheet(alloc, &picture, instance, reader, writer, period))
         }
         OfTimes::Diagrams { names: file, along } => {
-            let told = names_in(rt, file)?;
-            let names = &told;
-            let sheet = View::Diagrams { names, along };
+            let names = names_in(rt, file)?;
+            let diagrams = Diagrams {
+                names: &names,
+                along,
+            };
+            done(run_sheet(alloc, &diagrams, instance, reader, writer, period))
+        }
+        OfTimes::Timetable { names: None, json } => {
+            let sheet = Timetable { names: None, json };
             done(run_sheet(alloc, &sheet, instance, reader, writer, period))
         }
-        OfTimes::Timetable { names: file, json } => {
-            let told = names_of(rt, file)?;
-            let names = told.as_ref();
-            let sheet = Timetable { names, json };
+        OfTimes::Timetable {
+            names: Some(file),
+            json,
+        } => {
+            let names = names_in(rt, file)?;
+            let sheet = Timetable {
+                names: Some(&names),
+                json,
+            };
             done(run_sheet(alloc, &sheet, instance, reader, writer, period))
         }
         OfTimes::Fix {
@@ -579,10 +591,12 @@ pub(crate) fn of_times<R: AllocGlobal + Eprint + Files, I: Source, S: Source, W:
             let wanted = Wanted { events, lines };
             fix(rt, instance, reader, writer, period, names, wanted)
         }
-        OfTimes::Page { names: file } => {
-            let told = names_of(rt, file)?;
-            let names = told.as_ref();
-            let sheet = View::Page { names };
+        OfTimes::Page { names: None } => {
+            done(run_sheet(alloc, &HtmlPage(None), instance, reader, writer, period))
+        }
+        OfTimes::Page { names: Some(file) } => {
+            let names = names_in(rt, file)?;
+            let sheet = HtmlPage(Some(&names));
             done(run_sheet(alloc, &sheet, instance, reader, writer, period))
         }
     }
@@ -641,10 +655,9 @@ pub(crate) fn of_works<R: AllocGlobal, I: Source, B: Source, S: Source, W: Sink,
     let alloc = rt.alloc();
     match asked {
         OfWorks::Graft => done(run_graft(alloc, instance, base, reader, writer, teller, period)),
-        OfWorks::GraftSharp => {
-            let task = &GraftSharp;
-            done(run_on_works(alloc, task, instance, base, reader, writer, teller, period))
-        }
+        OfWorks::GraftSharp => done(run_graft_sharp(
+            alloc, instance, base, reader, writer, teller, period,
+        )),
     }
 }
 
@@ -676,7 +689,10 @@ pub(crate) fn opened_headed<'a, R: Eprint + Files>(
 }
 
 /// Opens a file with times, of which the beginning is kept.
-fn opened_times<R: Files>(rt: &R, file: &str) -> Result<Counted<Beginning<R::File>>, Fault>
+pub(crate) fn opened_times<R: Files>(
+    rt: &R,
+    file: &str,
+) -> Result<Counted<Beginning<R::File>>, Fault>
     ensures failed { IfOk result (λ file. file.calls.failed ≡ 0) }
     ensures interrupted { IfOk result (λ file. file.calls.interrupted ≡ 0) }
     ensures stopped { IfErr result (λ fault. fault ≡ Fault.NoFile) }
@@ -691,18 +707,4 @@ fn names_in<R: AllocGlobal + Files>(rt: &R, file: &str) -> Result<Names, Fault>
 {
     let mut reader = opened(rt, file)?;
     read_whole_names(rt.alloc(), &mut reader)
-}
-
-/// The names that a file tells, where one is named.
-fn names_of<R: AllocGlobal + Files>(rt: &R, file: Option<&str>) -> Result<Option<Names>, Fault>
-    ensures given { IfOk result (λ names. is_some names ≡ is_some file.entry) }
-    ensures stopped { IfErr result (λ fault. OrNamesOf file.entry fault ⊥) }
-{
-    match file {
-        None => Ok(None),
-        Some(file) => {
-            let names = names_in(rt, file)?;
-            Ok(Some(names))
-        }
-    }
 }

@@ -33,7 +33,10 @@ impl MarkCounts {
     /// No marks, at so many stations.
     pub fn none(alloc: Global, stations: usize) -> Result<MarkCounts, AllocError> {
         let places = stations.saturating_mul(PLACES as usize);
-        let counts = vec![in alloc; 0u32; places]?;
+        let mut counts = Vec::new(alloc);
+        for _ in 0..places {
+            counts.push(0)?;
+        }
         Ok(MarkCounts { counts })
     }
 

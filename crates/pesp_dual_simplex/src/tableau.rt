@@ -1,7 +1,10 @@
 //! The row of the tableau of what leaves.
 
+use crate::fixed::{ONE, by_whole, whole};
+use crate::inverse::{add_row, list_numbers, make_zeros};
+use crate::members::Member;
 use crate::simplex::Simplex;
-use pesp_basis::{Member, ONE, add_row, by_whole, change_row, list_numbers, make_zeros, whole};
+use crate::updates::change_row;
 use pesp_dual::Term;
 use std::alloc::AllocError;
 
@@ -54,14 +57,25 @@ impl Simplex {
         self.work = self.work.wrapping_add(work);
     }
 
+    /// Takes a tight line times a weight away from slacks.
+    fn take_line(&mut self, number: u32, weight: i64) {
+        let Some(line) = self.lines.get(number as usize) else {
+            return;
+        };
+        for term in &line.terms {
+            let part = by_whole(weight, term.coefficient);
+            self.alpha.gather(term.row, part.wrapping_neg());
+        }
+        self.work = self.work.wrapping_add(line.terms.len() as u64);
+    }
+
     /// Takes all tight lines with their weights away.
     fn take_lines(&mut self) {
-        for (place, weight) in &self.listed {
-            if let Some(number) = self.state.tight.get(*place as usize)
-                && let Some(line) = self.lines.get(*number as usize)
+        for at in 0..self.listed.len() {
+            if let Some((place, weight)) = self.listed.get(at).copied()
+                && let Some(number) = self.state.tight.get(place as usize).copied()
             {
-                self.alpha.take(&line.terms, *weight);
-                self.work = self.work.wrapping_add(line.terms.len() as u64);
+                self.take_line(number, weight);
             }
         }
     }

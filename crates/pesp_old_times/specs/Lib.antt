@@ -1,4 +1,3 @@
 pub mod OldTimes
 pub mod Tables
 pub mod Moves
-pub mod Beginning

@@ -1,11 +1,10 @@
-//! Problems, their nodes, what pairs are worth there, and the leaves that are found.
+//! Problems, their nodes, and what pairs are worth there.
 
 ghost use Rattle.std.specs.Prelude.{IsTrue, IfSome};
 ghost use Rattle.pesp_nodes.specs.Problems.{IsNodeOf, IsCutOf};
 
-use crate::rows::{cuts_of, given_network, table_of};
-use pesp_bound::{Leaf, Pairs, best_leaf, best_leaf_from};
-use pesp_cases::{look_up, pairs_of, small, tell_number, tell_ranges};
+use crate::given::{cuts_of, given_network, table_of};
+use pesp_cases::{pairs_of, small, spell_ranges};
 use pesp_network::Network;
 use pesp_nodes::{
     Cut, Node, Pair, Problem, ProblemRefusal, Side, are_pairs, leaf_value, offset_range,
@@ -34,22 +33,26 @@ fn made(alloc: Global, lines: &[&str]) -> Option<Result<Problem, ProblemRefusal>
     }
 }
 
-/// Tells the size of the problem, or why there is none.
-pub(crate) fn ask_problem(alloc: Global, lines: &[&str], told: &mut String) -> Option<()> {
+pub(crate) fn problem_of(alloc: Global, lines: &[&str]) -> Option<Problem> {
+    made(alloc, lines)?.ok()
+}
+
+/// The size of the problem, or why there is none.
+pub(crate) fn ask_problem(alloc: Global, lines: &[&str]) -> Option<String> {
     match made(alloc, lines)? {
         Ok(problem) => {
-            let done = tell_size(&problem, told);
+            let told = size(alloc, &problem);
             drop(problem);
-            done
+            told
         }
-        Err(refusal) => write!(told, " {refusal:?}").ok(),
+        Err(refusal) => format!(in alloc; "{refusal:?}").ok(),
     }
 }
 
-fn tell_size(problem: &Problem, told: &mut String) -> Option<()> {
+fn size(alloc: Global, problem: &Problem) -> Option<String> {
     let events = problem.network().events();
     let cycles = problem.table().len();
-    write!(told, " {events} events, {cycles} cycles").ok()
+    format!(in alloc; "{events} events, {cycles} cycles").ok()
 }
 
 /// Whether a node has what the cut names, and the cut keeps its limit.
@@ -67,7 +70,7 @@ fn has_cut(node: &Node, cut: Cut) -> bool
 }
 
 /// The part of the root by the given cuts.
-fn node_of(alloc: Global, problem: &Problem, cuts: &[(Cut, Side)]) -> Option<Node>
+pub(crate) fn node_of(alloc: Global, problem: &Problem, cuts: &[(Cut, Side)]) -> Option<Node>
     ensures { IfSome result (IsNodeOf problem.now) }
 {
     let Ok(mut node) = problem.root(alloc) else {
@@ -82,142 +85,86 @@ fn node_of(alloc: Global, problem: &Problem, cuts: &[(Cut, Side)]) -> Option<Nod
     Some(node)
 }
 
-/// Tells the answer to a question to the node of the given cuts.
-pub(crate) fn ask_node(
-    alloc: Global,
-    lines: &[&str],
-    words: &[&str],
-    told: &mut String,
-) -> Option<()> {
-    let cuts = cuts_of(alloc, lines)?;
-    let problem = made(alloc, lines)?.ok()?;
-    let done = tell_node(alloc, &problem, &cuts, words, told);
-    drop(problem);
-    done
-}
-
-fn tell_node(
-    alloc: Global,
-    problem: &Problem,
-    cuts: &[(Cut, Side)],
-    words: &[&str],
-    told: &mut String,
-) -> Option<()> {
-    match node_of(alloc, problem, cuts) {
-        Some(node) => {
-            let done = answer(alloc, problem, &node, words, told);
-            drop(node);
-            done
-        }
+/// The part of the root by the cuts of the lines.
+pub(crate) fn given_node(alloc: Global, problem: &Problem, lines: &[&str]) -> Option<Node>
+    ensures { IfSome result (IsNodeOf problem.now) }
+{
+    match cuts_of(alloc, lines) {
+        Some(cuts) => node_of(alloc, problem, &cuts),
         None => None,
     }
 }
 
-/// What is asked of a node.
-#[derive(Clone, Copy)]
-enum Asked {
-    Slacks,
-    Offsets,
-    Left,
-    Value,
-    Emptiness,
-    Leaf,
+/// A question to the node of the given cuts.
+pub(crate) fn ask_node(alloc: Global, lines: &[&str], words: &[&str]) -> Option<String> {
+    let problem = problem_of(alloc, lines)?;
+    let told = ask_problem_node(alloc, &problem, lines, words);
+    drop(problem);
+    told
 }
 
-/// The second word of each question.
-const ASKED: [(&str, Asked); 6] = [
-    ("slacks", Asked::Slacks),
-    ("offsets", Asked::Offsets),
-    ("left", Asked::Left),
-    ("value", Asked::Value),
-    ("emptiness", Asked::Emptiness),
-    ("leaf", Asked::Leaf),
-];
-
-fn answer(
+fn ask_problem_node(
     alloc: Global,
     problem: &Problem,
-    node: &Node,
+    lines: &[&str],
     words: &[&str],
-    told: &mut String,
-) -> Option<()>
+) -> Option<String> {
+    answer(alloc, problem, &given_node(alloc, problem, lines)?, words)
+}
+
+fn answer(alloc: Global, problem: &Problem, node: &Node, words: &[&str]) -> Option<String>
     requires { IsNodeOf problem.now node.now }
 {
-    let asked = look_up(&ASKED, words.get(0)?)?;
-    match asked {
-        Asked::Slacks => tell_ranges(node.slacks(), told),
-        Asked::Offsets => tell_ranges(node.offsets(), told),
-        Asked::Left => tell_left(problem, node, small(words, 1)?, told),
-        Asked::Leaf => tell_best(alloc, problem, node, words, told),
-        Asked::Value | Asked::Emptiness => tell_value(
-            problem,
-            node,
-            &pairs_of(alloc, words.get(1..)?)?,
-            matches!(asked, Asked::Value),
-            told,
-        ),
+    match *words.get(1)? {
+        "slacks" => spell_ranges(alloc, node.slacks()),
+        "offsets" => spell_ranges(alloc, node.offsets()),
+        "left" => left(alloc, problem, node, small(words, 2)?),
+        "value" => value(alloc, problem, node, words.get(2..)?, true),
+        "emptiness" => value(alloc, problem, node, words.get(2..)?, false),
+        _ => None,
     }
 }
 
-/// Tells the offsets left of a cycle.
-fn tell_left(problem: &Problem, node: &Node, cycle: u32, told: &mut String) -> Option<()>
+/// The offsets left of a cycle.
+fn left(alloc: Global, problem: &Problem, node: &Node, cycle: u32) -> Option<String>
     requires { IsNodeOf problem.now node.now }
 {
     if cycle == 0 || cycle as usize > problem.table().len() {
         return None;
     }
     match offset_range(problem, node, cycle) {
-        Some((low, high)) => write!(told, " {low}..{high}").ok(),
-        None => told.push_str(" none").ok(),
+        Some((low, high)) => format!(in alloc; "{low}..{high}").ok(),
+        None => String::from_str(alloc, "none").ok(),
     }
 }
 
-/// Tells the value of pairs, with the rows' weights or with all weights 0.
-fn tell_value(
+/// The value of the pairs of the words, with the rows' weights or with all weights 0.
+fn value(
+    alloc: Global,
+    problem: &Problem,
+    node: &Node,
+    words: &[&str],
+    weighted: bool,
+) -> Option<String>
+    requires { IsNodeOf problem.now node.now }
+{
+    value_of(alloc, problem, node, &pairs_of(alloc, words)?, weighted)
+}
+
+fn value_of(
+    alloc: Global,
     problem: &Problem,
     node: &Node,
     pairs: &[Pair],
     weighted: bool,
-    told: &mut String,
-) -> Option<()>
+) -> Option<String>
     requires { IsNodeOf problem.now node.now }
 {
     if !are_pairs(pairs, problem.table().len()) {
         return None;
     }
-    tell_number(leaf_value(problem, node, pairs, weighted), told)
-}
-
-/// Tells the leaf that is found in so many rounds, or, behind `start`, in 1000 rounds from no pairs.
-fn tell_best(
-    alloc: Global,
-    problem: &Problem,
-    node: &Node,
-    words: &[&str],
-    told: &mut String,
-) -> Option<()>
-    requires { IsNodeOf problem.now node.now }
-{
-    if *words.get(1)? == "start" {
-        return tell_leaf(&best_leaf_from(alloc, problem, node, &[], 1000).ok()?, told);
-    }
-    let rounds = small(words, 1)?;
-    tell_leaf(&best_leaf(alloc, problem, node, rounds).ok()?, told)
-}
-
-fn with_pairs(pairs: &Pairs) -> &'static str {
-    if pairs.as_slice().is_empty() {
-        "without pairs"
-    } else {
-        "with pairs"
-    }
-}
-
-/// Tells the kind of a leaf, its number, and whether it has pairs.
-fn tell_leaf(leaf: &Leaf, told: &mut String) -> Option<()> {
-    match leaf {
-        Leaf::Gap { cycle } => write!(told, " gap {cycle}").ok(),
-        Leaf::Nothing { pairs } => write!(told, " nothing {}", with_pairs(pairs)).ok(),
-        Leaf::Bound { pairs, value } => write!(told, " bound {value} {}", with_pairs(pairs)).ok(),
+    match leaf_value(problem, node, pairs, weighted) {
+        Some(value) => format!(in alloc; "{value}").ok(),
+        None => String::from_str(alloc, "none").ok(),
     }
 }

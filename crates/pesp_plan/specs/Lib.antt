@@ -1,2 +1,2 @@
 pub mod Planning
-pub mod Looks
+pub mod Beginning

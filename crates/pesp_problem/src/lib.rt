@@ -23,7 +23,6 @@ mod path;
 mod rates;
 mod row;
 mod rows;
-mod share;
 mod walk;
 mod worth;
 
@@ -44,6 +43,5 @@ pub use path::{Branch, Change};
 pub use rates::{Rates, add_walk, clear, no_rates};
 pub use row::{Row, SignedRow};
 pub use rows::rows_sum;
-pub use share::Share;
 pub use walk::Walk;
 pub use worth::{score, slack_of};

@@ -126,14 +126,18 @@ impl<'a> RailwayNetwork<'a> {
 
     /// No lines: each event stands nowhere.
     fn without_lines(alloc: Global, instance: &Instance) -> Result<RailwayNetwork<'a>, AllocError> {
-        let events = instance.events().len();
-        Ok(RailwayNetwork {
+        let mut network = RailwayNetwork {
             lines: Vec::new(alloc),
-            places: vec![in alloc; None; events]?,
-            owners: vec![in alloc; ""; events]?,
+            places: Vec::new(alloc),
+            owners: Vec::new(alloc),
             left: 0,
             is_corridor: false,
-        })
+        };
+        for _ in instance.events() {
+            network.places.push(None)?;
+            network.owners.push("")?;
+        }
+        Ok(network)
     }
 
     /// Where a station stands on the first line.

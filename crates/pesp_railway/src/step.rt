@@ -1,7 +1,6 @@
 //! Events on the ways of trains.
 
-ghost use Rattle.std.specs.Prelude.{◌≡◌};
-ghost use Rattle.pesp_railway.specs.Words.{direction_word, halt_word};
+use std::fmt;
 
 /// In which direction a train goes along its line.
 #[derive(Clone, Copy, PartialEq, Eq)]
@@ -16,9 +15,7 @@ pub enum Direction {
 
 impl Direction {
     /// The word for it; empty where the train goes nowhere.
-    pub fn word(self) -> &'static str
-        ensures { result.now ≡ direction_word self }
-    {
+    pub fn word(self) -> &'static str {
         match self {
             Direction::Out => "out",
             Direction::Back => "back",
@@ -33,6 +30,12 @@ impl Direction {
             Direction::Back => 1,
             Direction::Nowhere => 2,
         }
+    }
+}
+
+impl fmt::Display for Direction {
+    fn fmt<W: fmt::Write>(&self, f: &mut fmt::Formatter<W>) -> fmt::Result {
+        f.write_str(self.word())
     }
 }
 
@@ -51,9 +54,7 @@ pub enum Halt {
 
 impl Halt {
     /// The word for it; empty where the train neither comes nor leaves.
-    pub fn word(self) -> &'static str
-        ensures { result.now ≡ halt_word self }
-    {
+    pub fn word(self) -> &'static str {
         match self {
             Halt::Arrival => "arrival",
             Halt::Departure => "departure",

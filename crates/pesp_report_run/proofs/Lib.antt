@@ -1,4 +1,3 @@
 mod Causes
 pub mod Short
 mod Telling
-mod Places

@@ -4,4 +4,3 @@ pub mod Fixing
 pub mod Naming
 pub mod Told
 pub mod Runs
-pub mod Fixed

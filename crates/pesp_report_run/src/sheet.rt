@@ -9,10 +9,11 @@ ghost use Rattle.pesp_report.specs.Reporting.{IfBlamed, Refuses, UnlessBlamed};
 
 use pesp_diagram::diagram;
 use pesp_draw::{ActivityFilter, draw};
+use pesp_page::{Claim, page};
 use pesp_problem::Instance;
 use pesp_report::{Names, ReportRefusal, report, report_named};
 use pesp_stream::Sink;
-use pesp_timetable::{Claim, page, timetable};
+use pesp_timetable::timetable;
 use std::alloc::Global;
 
 /// What is written of a timetable: a report, its records, a picture or a page.
@@ -20,9 +21,8 @@ pub trait Sheet {
     // What is said of the text that is written of these times of an instance.
     ghost shows: { Self → Pesp → List ℕ → List ℕ → Type 0 };
 
-    /// Writes it, with what the text of the times claims of other timetables. `NotTimes` where there isn't one time below the period
-    /// for each event. `Violates` with the first row that isn't satisfied. After `Write` a front of the text is written, and after
-    /// any other refusal nothing.
+    /// Writes it, with what the text of the times claims of other timetables. `NotTimes` where there isn't one time below the period for each event, and `Violates` with the first row that
+    /// isn't satisfied. After `Write` a front of the text is written, and after any other refusal nothing.
     fn write<W: Sink>(
         &self,
         alloc: Global,
@@ -89,6 +89,60 @@ impl Sheet for NamedReport<'_> {
     }
 }
 
+/// A picture in SVG with at most `rows` activities, the dearest ones that cost something, and all events, called by these names
+/// where there are any. What it shows is not promised.
+#[derive(Clone, Copy)]
+pub struct Picture<'a> {
+    pub rows: u32,
+    pub names: Option<&'a Names>,
+}
+
+impl Sheet for Picture<'_> {
+    ghost use Rattle.std.specs.Prelude.{⊤};
+
+    ghost shows = { λ _ _ _ _. ⊤ };
+
+    fn write<W: Sink>(
+        &self,
+        alloc: Global,
+        instance: &Instance,
+        times: &[u32],
+        _claim: Claim,
+        sink: &mut W,
+    ) -> Result<(), ReportRefusal> {
+        let choice = ActivityFilter {
+            most: self.rows,
+            costless: false,
+        };
+        draw(alloc, instance, times, choice, self.names, sink)
+    }
+}
+
+/// Time-distance diagrams in SVG, one for each line that the names tell, or one along stations that are named between commas. What
+/// they show is not promised.
+#[derive(Clone, Copy)]
+pub struct Diagrams<'a> {
+    pub names: &'a Names,
+    pub along: Option<&'a str>,
+}
+
+impl Sheet for Diagrams<'_> {
+    ghost use Rattle.std.specs.Prelude.{⊤};
+
+    ghost shows = { λ _ _ _ _. ⊤ };
+
+    fn write<W: Sink>(
+        &self,
+        alloc: Global,
+        instance: &Instance,
+        times: &[u32],
+        _claim: Claim,
+        sink: &mut W,
+    ) -> Result<(), ReportRefusal> {
+        diagram(alloc, instance, times, self.names, self.along, sink)
+    }
+}
+
 /// The timetable: a record for each event, or an object of JSON, in the order of the ways of trains, with what names tell where
 /// there are any.
 #[derive(Clone, Copy)]
@@ -114,29 +168,12 @@ impl Sheet for Timetable<'_> {
     }
 }
 
-/// What is looked at of a timetable. What it shows is not promised.
-///
-/// `Picture`: in SVG, at most `rows` activities, the dearest ones that cost something. It has all events too, called by these names
-/// where there are any.
-/// `Diagrams`: time-distance diagrams in SVG, one for each line that the names tell. Or one along stations that are named between
-/// commas.
-/// `Page`: in HTML, what the text of the times claims, and the timetable. It has the diagrams too, and the slack of each activity.
+/// A page in HTML with what the text of the times claims, the timetable, the diagrams and the slack of each activity. What it
+/// shows is not promised.
 #[derive(Clone, Copy)]
-pub enum View<'a> {
-    Picture {
-        rows: u32,
-        names: Option<&'a Names>,
-    },
-    Diagrams {
-        names: &'a Names,
-        along: Option<&'a str>,
-    },
-    Page {
-        names: Option<&'a Names>,
-    },
-}
+pub struct HtmlPage<'a>(pub Option<&'a Names>);
 
-impl Sheet for View<'_> {
+impl Sheet for HtmlPage<'_> {
     ghost use Rattle.std.specs.Prelude.{⊤};
 
     ghost shows = { λ _ _ _ _. ⊤ };
@@ -149,18 +186,6 @@ impl Sheet for View<'_> {
         claim: Claim,
         sink: &mut W,
     ) -> Result<(), ReportRefusal> {
-        match self {
-            View::Picture { rows, names } => {
-                let choice = ActivityFilter {
-                    most: *rows,
-                    costless: false,
-                };
-                draw(alloc, instance, times, choice, *names, sink)
-            }
-            View::Diagrams { names, along } => {
-                diagram(alloc, instance, times, *names, *along, sink)
-            }
-            View::Page { names } => page(alloc, instance, times, *names, claim, sink),
-        }
+        page(alloc, instance, times, self.0, claim, sink)
     }
 }

@@ -3,23 +3,20 @@ use Rattle.std.proofs.Common.{◌≡◌, ◌⊎◌, inl, inr, ℕ, List, Err}
 use Rattle.std.specs.Prelude.{Option}
 use Rattle.pesp_stream.specs.Counts.{Calls}
 use Rattle.pesp_stream.specs.Reading.{ReadsText}
-use Rattle.pesp_problem.specs.Timetables.{Pesp, AreTimes}
+use Rattle.pesp_problem.specs.Timetables.{Pesp}
 use Rattle.pesp_search.specs.Refusals.{MeetsLimit}
 use Rattle.pesp_search.specs.Solving.{IsSearchRefusal}
 use Rattle.pesp_search.specs.declared.refusal.SolveRefusal.{SolveRefusal}
 use Rattle.pesp_search.specs.declared.refusal.SolveRefusal.TheVariants.{Memory as SearchMemory, TableTooLarge, PairsTooMany}
 use Rattle.pesp_report.specs.TimesText.{times_from_text}
-use Rattle.pesp_report.specs.Reporting.{RefusesTimes}
-use Rattle.pesp_report.specs.declared.refusal.ReportRefusal.{ReportRefusal}
-use Rattle.pesp_report.specs.declared.refusal.ReportRefusal.TheVariants.{Violates, NotTimes, Memory as ReportMemory, Write as ReportWrite}
 use Rattle.pesp_report.specs.declared.refusal.TimesRefusal.{TimesRefusal}
 use Rattle.pesp_report.specs.declared.refusal.TimesRefusal.TheVariants.{BadLine, WrongCount, Memory as TimesMemory}
 use Rattle.pesp_check_run.specs.declared.fault.VerdictFault.{VerdictFault}
 use Rattle.pesp_check_run.specs.declared.fault.VerdictFault.TheVariants.{Instance, Certificate, Memory, Read, Write, NoFile}
 use Rattle.pesp_check_run.specs.Devices.{Device, over}
 use Rattle.pesp_check_run.specs.Checking as checking
-use Rattle.pesp_runs.specs.FaultLines.{verdict_fault, search_fault, times_fault, report_fault}
-use Rattle.pesp_runs.specs.Causes.{InstanceCause, TimesCause, RowCause, SearchCause, LimitCause}
+use Rattle.pesp_runs.specs.FaultLines.{verdict_fault, search_fault, times_fault}
+use Rattle.pesp_runs.specs.Causes.{InstanceCause, TimesCause, SearchCause, LimitCause}
 
 -- why there is no instance, told as a fault of the runs
 pub instance_cause : (fault : VerdictFault) (reader : Device) (period : ℕ)
@@ -52,11 +49,3 @@ times_cause (BadLine n) told left calls after bytes p read first =
     elim first [ inl e ↦ cc | inr e ↦ record { text = bytes; read = read; holds = e } ]
 times_cause WrongCount told left calls after bytes p read first =
     elim first [ inl e ↦ cc | inr e ↦ record { text = bytes; read = read; holds = e } ]
-
--- times that are no timetable
-pub row_cause : (refusal : ReportRefusal) (p : Pesp) (times : List ℕ) → AreTimes p times → RefusesTimes p times refusal
-    → RowCause (report_fault refusal) p times
-row_cause (Violates row) p times are refused = refused.1
-row_cause NotTimes p times are refused = absurd (refused are)
-row_cause ReportMemory p times are refused = refused
-row_cause ReportWrite p times are refused = refused

@@ -24,12 +24,6 @@ InstanceCause Memory reader period = Unit {0}
 InstanceCause Read reader period = HasFailed reader
 InstanceCause fault reader period = ⊥
 
--- why a text isn't read to its end: the reader's device
-abbrev pub TextCause : Fault → Device → Type 0
-TextCause Memory reader = Unit {0}
-TextCause Read reader = HasFailed reader
-TextCause fault reader = ⊥
-
 -- why there are no times: their text, or the reader's device
 abbrev pub TimesCause : Fault → Device → Pesp → Type 0
 TimesCause (Times refusal) reader p = ReadsNext reader.old reader.new (λ bytes. times_from_text p bytes ≡ Err refusal)

@@ -14,26 +14,17 @@ pub record ReadsNext (told left : Option (List ℕ)) (Holds : List ℕ → Type 
   pub read : ReadsText told left MOST_TEXT text
   pub holds : Holds text
 
--- the first text has an instance, and the second what a command begins with. This is said of both
-abbrev pub OverBase : {B : Type 0} → (Option (List ℕ) → Option (List ℕ) → Pesp → B → Type 0)
-    → Option (List ℕ) → Option (List ℕ) → Option (List ℕ) → Option (List ℕ) → ℕ → (Pesp → B → Type 0) → Type 0
-OverBase {B} Reads told left told_base left_base period Holds =
-    (p : Pesp) × ReadsInstance told left period p
-    × ((base : B) × Reads told_base left_base p base × Holds p base)
-
 -- ---- times
 
 -- the bytes that were read give these times to the instance
 abbrev pub ReadsTimes : Option (List ℕ) → Option (List ℕ) → Pesp → List ℕ → Type 0
 ReadsTimes told left p times = ReadsNext told left (λ text. times_from_text p text ≡ Ok times)
 
--- the bytes that were read give the instance these times, which are a timetable
-abbrev pub GivesTimetable : Option (List ℕ) → Option (List ℕ) → Pesp → List ℕ → Type 0
-GivesTimetable told left p times = ReadsTimes told left p times × IsTimetable p times
-
--- the first text has an instance, and the second a timetable of it. This is said of both
+-- the first text has an instance and the second one a timetable of it, of which this is said
 abbrev pub ReadsTimetable : Option (List ℕ) → Option (List ℕ) → Option (List ℕ) → Option (List ℕ) → ℕ → (Pesp → List ℕ → Type 0) → Type 0
-ReadsTimetable told left told_times left_times period Holds = OverBase GivesTimetable told left told_times left_times period Holds
+ReadsTimetable told left told_times left_times period Holds =
+    (p : Pesp) × ReadsInstance told left period p
+    × ((times : List ℕ) × ReadsTimes told_times left_times p times × IsTimetable p times × Holds p times)
 
 -- ---- a certificate
 
@@ -41,10 +32,12 @@ ReadsTimetable told left told_times left_times period Holds = OverBase GivesTime
 abbrev pub ReadsCertificate : Option (List ℕ) → Option (List ℕ) → Content → Type 0
 ReadsCertificate told left certificate = ReadsNext told left (λ text. IsTextOf None text certificate)
 
--- the bytes that were read are its text, and it is valid for the instance
+-- they are, and it is valid for the instance
 abbrev pub ReadsBase : Option (List ℕ) → Option (List ℕ) → Pesp → Content → Type 0
 ReadsBase told left p base = ReadsCertificate told left base × IsValid None p base
 
--- the first text has an instance, and the second a base of it. This is said of both
+-- the first text has an instance and the second one a base of it, of which this is said
 abbrev pub HasBase : Option (List ℕ) → Option (List ℕ) → Option (List ℕ) → Option (List ℕ) → ℕ → (Pesp → Content → Type 0) → Type 0
-HasBase told left told_base left_base period Holds = OverBase ReadsBase told left told_base left_base period Holds
+HasBase told left told_base left_base period Holds =
+    (p : Pesp) × ReadsInstance told left period p
+    × ((base : Content) × ReadsBase told_base left_base p base × Holds p base)

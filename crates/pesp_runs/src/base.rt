@@ -6,16 +6,16 @@ ghost use Rattle.pesp_problem.specs.Timetables.{Pesp};
 ghost use Rattle.pesp_check_run.specs.Devices.{Device, over};
 ghost use Rattle.pesp_runs.specs.declared.fault.Fault.{Fault as AnyFault};
 
-use crate::{Fault, MOST_TEXT};
-use pesp_cert::{Certificate, Fronted, parse, parse_fronted};
-use pesp_check::{check, check_sharp};
+use crate::{Fault, MOST_TEXT, read_base};
+use pesp_cert::{Certificate, Fronted, parse_fronted};
+use pesp_check::check_sharp;
 use pesp_judges::Verdict;
 use pesp_problem::Instance;
 use pesp_stream::{Source, read_all};
 use std::alloc::Global;
 
 /// A certificate that is read to begin with, and is valid for its instance: one without a front, or one that may have it.
-pub trait Base: Drop {
+pub trait Base {
     // It is valid for the instance.
     ghost valid: { Pesp → Self → Type 0 };
 
@@ -57,12 +57,7 @@ impl Base for Certificate {
         instance: &Instance,
         reader: &mut R,
     ) -> Result<Certificate, Fault> {
-        let text = read_all(alloc, reader, MOST_TEXT)?;
-        let base = parse(alloc, &text)?;
-        match check(alloc, instance, &base)? {
-            Verdict::Accepted => Ok(base),
-            Verdict::Refused(wrong) => Err(Fault::Base(wrong)),
-        }
+        read_base(alloc, instance, reader)
     }
 }
 

@@ -109,12 +109,11 @@ pub(crate) fn matched(
         matched: vec![in alloc; false; walks.len()]?,
     };
     let mut places = at_their_places(alloc, &mut ours, others)?;
-    for (place, slot) in places.iter_mut().enumerate() {
+    for (slot, codes) in places.iter_mut().zip(others.iter()) {
         if slot.is_none()
-            && let Some(codes) = others.get(place)
-            && let Some(found) = ours.find(codes)
+            && let Some(place) = ours.find(codes)
         {
-            *slot = ours.take(found, codes);
+            *slot = ours.take(place, codes);
         }
     }
     Ok(places)

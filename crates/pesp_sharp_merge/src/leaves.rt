@@ -111,22 +111,22 @@ impl<'a> LemmaLeaf<'a> {
         Ok(())
     }
 
-    /// Which of its cycles, marked walks and lemmas pairs name.
-    fn named(&self, alloc: Global, pairs: &[Pair]) -> Result<Named, Memory> {
+    /// Which of its cycles, marked walks and lemmas a line names.
+    fn named(&self, alloc: Global, line: &TreeLine) -> Result<Named, Memory> {
         let walks = walks_of(self.front()).len();
         let lemmas = lemmas_of(self.front()).len();
         let mut named = Named::none(alloc, self.cycles(), walks, lemmas)?;
-        named.mark_pairs(pairs);
+        named.mark_line(line);
         Ok(named)
     }
 
-    /// Pairs by new numbers; None where they can't be told.
+    /// A line by new numbers; None where it can't be told.
     fn retold(
         &self,
         alloc: Global,
-        pairs: &[Pair],
+        line: &TreeLine,
         numbers: &[u32],
-    ) -> Result<Option<Pairs>, Memory> {
+    ) -> Result<Option<TreeLine>, Memory> {
         let retelling = Retelling {
             cycles: self.cycles(),
             first: 0,
@@ -134,7 +134,7 @@ impl<'a> LemmaLeaf<'a> {
             numbers,
             factor: 1,
         };
-        retelling.pairs(alloc, pairs)
+        retelling.line(alloc, line)
     }
 }
 
@@ -164,7 +164,7 @@ impl LeafPair<'_> {
     }
 
     /// What both leaves name of our cycles and marked walks, each with the lesser multiplier, and our lemmas.
-    fn own_pairs(&self, alloc: Global) -> Result<Vec<Pair>, Memory> {
+    fn own_line(&self, alloc: Global) -> Result<TreeLine, Memory> {
         let others = self.others(alloc)?;
         let mut pairs = Vec::new(alloc);
         for pair in self.own.pairs {
@@ -178,25 +178,25 @@ impl LeafPair<'_> {
             }
         }
         self.own.add_lemmas(&mut pairs)?;
-        Ok(pairs)
+        Ok(TreeLine::Bound(Pairs::new(pairs)))
     }
 
     /// The other leaf's lemmas.
-    fn other_pairs(&self, alloc: Global) -> Result<Vec<Pair>, Memory> {
+    fn other_line(&self, alloc: Global) -> Result<TreeLine, Memory> {
         let mut pairs = Vec::new(alloc);
         self.other.add_lemmas(&mut pairs)?;
-        Ok(pairs)
+        Ok(TreeLine::Bound(Pairs::new(pairs)))
     }
 
-    /// The numbers of what these pairs name.
+    /// The numbers of what these lines name.
     fn numbering(
         &self,
         alloc: Global,
-        own_pairs: &[Pair],
-        other_pairs: &[Pair],
+        own_line: &TreeLine,
+        other_line: &TreeLine,
     ) -> Result<Numbering, Memory> {
-        let mut own = self.own.named(alloc, own_pairs)?;
-        match self.other.named(alloc, other_pairs) {
+        let mut own = self.own.named(alloc, own_line)?;
+        match self.other.named(alloc, other_line) {
             Ok(other) => {
                 let numbering = Numbering::of(alloc, &mut own, &other, self.common);
                 drop(own);
@@ -305,32 +305,33 @@ impl LeafPair<'_> {
         }
     }
 
-    /// The leaf of these pairs by these numbers; None where it can't be told.
+    /// The leaf of both lines by these numbers; None where it can't be told.
     fn leaf(
         &self,
         alloc: Global,
-        own_pairs: &[Pair],
-        other_pairs: &[Pair],
+        own_line: &TreeLine,
+        other_line: &TreeLine,
         numbering: &Numbering,
     ) -> Result<Option<TreeLine>, Memory> {
-        let Some(own) = self.own.retold(alloc, own_pairs, &numbering.own)? else {
-            return Ok(None);
-        };
-        let Some(other) = self.other.retold(alloc, other_pairs, &numbering.other)? else {
-            return Ok(None);
-        };
-        Ok(Some(joined_leaf(alloc, &own, &other)?))
+        let own = self.own.retold(alloc, own_line, &numbering.own)?;
+        let other = self.other.retold(alloc, other_line, &numbering.other)?;
+        match (own, other) {
+            (Some(TreeLine::Bound(own)), Some(TreeLine::Bound(other))) => {
+                Ok(Some(joined_leaf(alloc, &own, &other)?))
+            }
+            _ => Ok(None),
+        }
     }
 
-    /// What comes of both by these pairs; None where a part would pass a limit.
+    /// What comes of both by these lines; None where a part would pass a limit.
     fn joined(
         &self,
         alloc: Global,
-        own_pairs: &[Pair],
-        other_pairs: &[Pair],
+        own_line: &TreeLine,
+        other_line: &TreeLine,
     ) -> Result<Option<Fronted>, Memory> {
-        let numbering = self.numbering(alloc, own_pairs, other_pairs)?;
-        let fronted = match self.leaf(alloc, own_pairs, other_pairs, &numbering) {
+        let numbering = self.numbering(alloc, own_line, other_line)?;
+        let fronted = match self.leaf(alloc, own_line, other_line, &numbering) {
             Ok(Some(leaf)) => self.fronted(alloc, &numbering, leaf),
             Ok(None) => Ok(None),
             Err(refused) => Err(refused),
@@ -366,9 +367,9 @@ fn with_common(
         common,
         scale,
     };
-    let own_pairs = leaves.own_pairs(alloc)?;
-    let other_pairs = leaves.other_pairs(alloc)?;
-    leaves.joined(alloc, &own_pairs, &other_pairs)
+    let own_line = leaves.own_line(alloc)?;
+    let other_line = leaves.other_line(alloc)?;
+    leaves.joined(alloc, &own_line, &other_line)
 }
 
 /// What comes of two such leaves.

@@ -8,5 +8,6 @@ mod proposal;
 mod proposing;
 mod search;
 mod tree_sharpener;
+mod turns;
 
 pub use tree_sharpener::TreeSharpener;

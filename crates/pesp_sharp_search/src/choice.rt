@@ -13,7 +13,8 @@ use pesp_cert::{Certificate, Fronted};
 use pesp_check::check_sharp;
 use pesp_judges::Verdict;
 use pesp_problem::{Instance, Memory};
-use pesp_search::{Proposals, branches_leave_both, retold};
+use pesp_search::{branches_leave_both, retold};
+use pesp_sharpener::Proposals;
 use pesp_truth::Answer;
 use std::alloc::Global;
 

@@ -1,6 +1,7 @@
 //! Observers of a search that sharpens.
 
-use pesp_search::{Nobody, Observer, SharpWatcher, Standing};
+use pesp_search::{Nobody, Observer};
+use pesp_sharpener::{SharpWatcher, Standing};
 
 /// Somebody who looks on while a search goes on and sharpens. No promise of the search speaks of observers.
 pub trait SharpObserver: Observer {

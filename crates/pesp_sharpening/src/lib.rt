@@ -4,8 +4,16 @@
 #![tactic(auto)]
 
 mod given;
+mod leaves;
+mod lines;
 mod opens;
+mod proposals;
+mod shape;
+mod sharpened;
 mod sharpening;
+mod tree;
+mod trials;
 mod warm;
 
+pub use sharpened::{LeafMultipliers, SharpLine, Sharpened};
 pub use sharpening::{Sharpening, Step};

@@ -1,12 +1,15 @@
 //! Steps by exchanges over the program that all leaves share.
 
 use crate::opens::{LeafStart, Open};
+use crate::proposals::times_near;
+use crate::sharpened::LeafMultipliers;
 use crate::sharpening::{Sharpening, Step};
-use pesp_offset_tree::{Candidate, Knot, LeafMultipliers, open_cut, times_near};
+use crate::tree::Knot;
+use pesp_offset_cuts::{Candidate, open_cut};
 use pesp_sharp_nodes::{BoundSense, Limit, NodeProgram, UNIT};
 use pesp_warm_nodes::{NodeBasis, Shared, ShownBound, SolveStatus, note};
-use std::alloc::{AllocError, Global};
-use std::mem::replace;
+use std::alloc::AllocError;
+use std::mem::swap;
 
 /// Down to which depth inequalities are sought, and down to which where there are many rows.
 const NEAR_ROOT: u32 = 6;
@@ -25,21 +28,6 @@ struct Above {
     place: u32,
     bound: u64,
     depth: u32,
-}
-
-/// Inequalities of the pool, and behind them those of walks that have one.
-fn with_walks(
-    alloc: Global,
-    common: &[u32],
-    walks: &[Option<u32>],
-) -> Result<Vec<u32>, AllocError> {
-    let mut numbers = Vec::from_slice(alloc, common)?;
-    for walk in walks {
-        if let Some(number) = *walk {
-            numbers.push(number)?;
-        }
-    }
-    Ok(numbers)
 }
 
 /// A leaf of what is shown.
@@ -64,35 +52,20 @@ impl Sharpening {
         relaxation: &NodeProgram,
         limit: Limit,
     ) -> Result<bool, AllocError> {
-        if !self.tree.is_leaf() {
+        if !self.is_leaf() {
             return Ok(false);
         }
         let Some(mut shared) = Shared::of(&mut self.sharpener, relaxation)? else {
             return Ok(false);
         };
         let begun = self.begin_shared(&mut shared, limit);
-        self.share_if(shared, begun)
-    }
-
-    /// Leaves share a program, where it is for them; else it goes.
-    fn share_if(
-        &mut self,
-        shared: Shared,
-        suits: Result<bool, AllocError>,
-    ) -> Result<bool, AllocError> {
-        if let Ok(true) = suits {
-            let shared = Box::new(self.alloc, shared)?;
-            self.put_shared(shared);
+        if let Ok(true) = begun {
+            self.shared = Some(shared);
         } else {
             shared.leave(&mut self.sharpener.pool);
             drop(shared);
         }
-        suits
-    }
-
-    /// Leaves share this program.
-    fn put_shared(&mut self, shared: Box<Shared>) {
-        drop(replace(&mut self.shared, Some(shared)));
+        begun
     }
 
     /// Goes on from the root by exchanges over inequalities that were taken in, where they are for it; whether they are.
@@ -101,31 +74,47 @@ impl Sharpening {
         walks: &[Option<u32>],
         limit: Limit,
     ) -> Result<bool, AllocError> {
-        if !self.tree.is_leaf() {
+        let mut numbers = Vec::new(self.alloc);
+        for number in walks {
+            if let Some(number) = *number {
+                numbers.push(number)?;
+            }
+        }
+        if !self.is_leaf() {
             return Ok(false);
         }
-        let numbers = with_walks(self.alloc, &[], walks)?;
         let Some(mut shared) = Shared::given(&mut self.sharpener, &numbers)? else {
             return Ok(false);
         };
         let begun = self.begin_part(&mut shared, limit);
-        self.share_if(shared, begun)
+        if let Ok(true) = begun {
+            self.shared = Some(shared);
+        } else {
+            shared.leave(&mut self.sharpener.pool);
+            drop(shared);
+        }
+        begun
     }
 
-    /// A tree that is given goes on by exchanges, where these inequalities are for it. They are of the pool, and of walks.
-    pub(crate) fn share_given(
-        &mut self,
-        common: &[u32],
-        walks: &[Option<u32>],
-        limit: Limit,
-    ) -> Result<(), AllocError> {
-        let numbers = with_walks(self.alloc, common, walks)?;
-        let Some(mut shared) = Shared::given(&mut self.sharpener, &numbers)? else {
+    /// A tree that is given goes on by exchanges over these inequalities of the pool, where they are for it.
+    pub(crate) fn share_given(&mut self, numbers: &[u32], limit: Limit) -> Result<(), AllocError> {
+        let Some(mut shared) = Shared::given(&mut self.sharpener, numbers)? else {
             return Ok(());
         };
         let suits = shared.suits(limit);
-        self.share_if(shared, suits)?;
+        if let Ok(true) = suits {
+            self.shared = Some(shared);
+        } else {
+            shared.leave(&mut self.sharpener.pool);
+            drop(shared);
+        }
+        suits?;
         Ok(())
+    }
+
+    /// Whether the tree is one leaf.
+    fn is_leaf(&self) -> bool {
+        matches!(self.tree.knots.first(), Some(Knot::Leaf { .. }))
     }
 
     /// Solves the root, and makes it the leaf of the tree.
@@ -202,7 +191,6 @@ impl Sharpening {
         limit: Limit,
     ) -> Result<(), AllocError> {
         if bound >= limit.cost {
-            drop(basis);
             return Ok(());
         }
         basis.keep_in(&mut self.sharpener.pool);
@@ -220,11 +208,13 @@ impl Sharpening {
         basis: &NodeBasis,
         limit: Limit,
     ) -> Result<Step, AllocError> {
-        let Some(mut shared) = replace(&mut self.shared, None) else {
+        let mut held = None;
+        swap(&mut held, &mut self.shared);
+        let Some(mut shared) = held else {
             return Ok(Step::Readied);
         };
         let worked = self.work_shared(&mut shared, open, basis, limit);
-        self.put_shared(shared);
+        self.shared = Some(shared);
         worked
     }
 
@@ -485,16 +475,21 @@ impl Sharpening {
         if !self.is_next(open.bound, above, limit) {
             return self.put_open(open);
         }
-        if let Some(other) = replace(&mut self.next, Some(open)) {
-            self.put_open(other)?;
+        let mut other = Some(open);
+        swap(&mut other, &mut self.next);
+        shared.carry()?;
+        match other {
+            Some(other) => self.put_open(other),
+            None => Ok(()),
         }
-        shared.carry()
     }
 
     /// Puts the part that is gone on with behind all other leaves.
     fn put_next(&mut self) -> Result<(), AllocError> {
+        let mut next = None;
+        swap(&mut next, &mut self.next);
         self.carried = None;
-        if let Some(open) = replace(&mut self.next, None) {
+        if let Some(open) = next {
             self.carried = Some(open.place);
             self.leaves.push(open)?;
         }

@@ -1,25 +1,11 @@
-//! The calls that look for timetables by a search of their own. Nobody has to hand in what finds them.
-//!
-//! The search for cheap timetables of a network. Times come from dives of the relaxation, and are annealed. They are merged by
-//! contracting what they have in common. Beside it stands the search in which spans may be broken. Nothing is promised but safety,
-//! so many steps, and that each run finds the same. What is found is judged by others.
+//! The calls that look for timetables by a search of their own: nobody has to hand in what finds them.
 #![tactic(auto)]
 
-mod balls;
-mod batches;
-mod individuals;
-mod looking;
-mod merges;
 mod open_work;
-mod pieces;
 mod runs;
-mod search;
 mod solution;
-mod times_search;
-mod work;
 
 pub use open_work::work;
 pub use pesp_search::{SolveRefusal, Solved};
 pub use runs::{run_solve, run_work};
 pub use solution::solve;
-pub use times_search::TimesSearch;

@@ -10,11 +10,11 @@ ghost use Rattle.pesp_runs.specs.Reading.{HasBase};
 ghost use Rattle.pesp_tasks.specs.Solving.{Solves, SolveCause};
 ghost use Rattle.pesp_tasks.specs.Outside.{WritesWorks, WorkCause};
 
-use crate::TimesSearch;
 use pesp_runs::{Fault, run_alone, run_on_base};
 use pesp_search::Nobody;
 use pesp_stream::{Sink, Source};
 use pesp_tasks::{Solve, WorkTask};
+use pesp_times::TimesSearch;
 use std::alloc::Global;
 
 /// Reads an instance, searches for a best timetable by at most so many splits of a leaf, and writes a certificate of what was

@@ -1,195 +1,364 @@
-//! What command lines ask for.
+//! Command lines.
 
 use clap::Error;
 use pesp_cases::words_of;
 use pesp_request::{
     Asked, OfCertificate, OfInstance, OfLeaves, OfTimes, OfWorks, Planning, Request, request_of,
 };
+use pesp_sharpener::Share;
 use std::alloc::Global;
 
 fn add_word(alloc: Global, words: &mut Vec<String>, word: &str) -> Option<()> {
     words.push(String::from_str(alloc, word).ok()?).ok()
 }
 
-/// The words of a command line, the program's name first.
-pub(crate) fn words_with_name(alloc: Global, line: &str) -> Option<Vec<String>> {
+fn with_name(alloc: Global, line: &[&str]) -> Option<Vec<String>> {
     let mut words = Vec::new(alloc);
     add_word(alloc, &mut words, "pesp")?;
-    for word in &words_of(alloc, line)? {
+    for word in line {
         add_word(alloc, &mut words, word)?;
     }
     Some(words)
 }
 
-/// Tells a plan that is asked for.
-fn tell_plan(asked: Planning<'_>, told: &mut String) -> Option<()> {
-    let Planning {
-        seconds,
-        output,
-        from,
-        quiet,
-        instance,
-    } = asked;
-    write!(
-        told,
-        " plan of {instance:?}, {seconds} seconds, output {output:?}, from {from:?}, quiet {quiet}"
-    )
-    .ok()
+/// The words of a command line, the program's name first.
+pub(crate) fn words_with_name(alloc: Global, line: &str) -> Option<Vec<String>> {
+    with_name(alloc, &words_of(alloc, line)?)
 }
 
-/// Tells what is asked of an instance.
-fn tell_of_instance(asked: OfInstance<'_>, told: &mut String) -> Option<()> {
+/// What is asked for in so many steps.
+fn tell_steps(alloc: Global, asked: &str, file: &str, period: u32, steps: u32) -> Option<String> {
+    format!(in alloc; "{asked}{file} at period {period} in {steps} steps").ok()
+}
+
+/// Adds that the progress is asked for, where it is.
+fn add_progress(told: &mut String, progress: bool) -> Option<()> {
+    let words = if progress { ", with its progress" } else { "" };
+    told.push_str(words).ok()
+}
+
+/// A search that is asked for, and the file with the times from which it begins, where one is named.
+fn tell_solve(
+    alloc: Global,
+    period: u32,
+    steps: u32,
+    from: Option<&str>,
+    progress: bool,
+    file: Option<&str>,
+) -> Option<String> {
+    let mut told = match file {
+        None => tell_steps(alloc, "solve", "", period, steps)?,
+        Some(file) => tell_steps(alloc, "solve ", file, period, steps)?,
+    };
+    if let Some(from) = from {
+        write!(told, ", from {from}").ok()?;
+    }
+    add_progress(&mut told, progress)?;
+    Some(told)
+}
+
+/// What is asked for over a file alone.
+fn tell_file(alloc: Global, verb: &str, period: u32, file: &str) -> Option<String> {
+    format!(in alloc; "{verb} {file} at period {period}").ok()
+}
+
+/// A search from a certificate that is asked for.
+fn tell_resume(
+    alloc: Global,
+    period: u32,
+    steps: u32,
+    seconds: Option<u32>,
+    progress: bool,
+    file: &str,
+) -> Option<String> {
+    let mut told = tell_steps(alloc, "resume ", file, period, steps)?;
+    if let Some(seconds) = seconds {
+        write!(told, " or {seconds} seconds").ok()?;
+    }
+    add_progress(&mut told, progress)?;
+    Some(told)
+}
+
+/// A plan that is asked for, and the file with the instance, where one is named.
+fn tell_plan(
+    alloc: Global,
+    period: u32,
+    asked: Planning<'_>,
+    file: Option<&str>,
+) -> Option<String> {
+    let (seconds, file) = (asked.seconds, file.unwrap_or("of standard input"));
+    let mut told = format!(in alloc; "plan {file} at period {period} in {seconds} seconds").ok()?;
+    if let Some(output) = asked.output {
+        write!(told, ", kept in {output}").ok()?;
+    }
+    if let Some(from) = asked.from {
+        write!(told, ", from {from}").ok()?;
+    }
+    told.push_str(if asked.quiet { ", silently" } else { "" })
+        .ok()?;
+    Some(told)
+}
+
+/// Conflicting activities that are asked for.
+fn tell_conflict(
+    alloc: Global,
+    period: u32,
+    steps: u32,
+    file: Option<&str>,
+    names: Option<&str>,
+) -> Option<String> {
+    let file = file.unwrap_or("of standard input");
+    let mut told = tell_steps(alloc, "conflict ", file, period, steps)?;
+    if let Some(names) = names {
+        write!(told, " with {names}").ok()?;
+    }
+    Some(told)
+}
+
+/// What is asked for over a file and a file of names.
+fn tell_named(alloc: Global, verb: &str, period: u32, file: &str, names: &str) -> Option<String> {
+    format!(in alloc; "{verb} {file} at period {period} with {names}").ok()
+}
+
+/// What is asked for over a file, and over a file of names where one is named.
+fn tell_sheet(
+    alloc: Global,
+    verb: &str,
+    period: u32,
+    file: &str,
+    names: Option<&str>,
+) -> Option<String> {
+    match names {
+        Some(names) => tell_named(alloc, verb, period, file, names),
+        None => tell_file(alloc, verb, period, file),
+    }
+}
+
+/// Diagrams that are asked for, and the stations along which they lie, where some are named.
+fn tell_diagrams(
+    alloc: Global,
+    period: u32,
+    file: &str,
+    names: &str,
+    along: Option<&str>,
+) -> Option<String> {
+    let mut told = tell_named(alloc, "diagram", period, file, names)?;
+    if let Some(stations) = along {
+        write!(told, " along {stations}").ok()?;
+    }
+    Some(told)
+}
+
+fn tell_picture(
+    alloc: Global,
+    period: u32,
+    rows: u32,
+    names: Option<&str>,
+    file: &str,
+) -> Option<String> {
+    let mut told = format!(in alloc; "draw {file} at period {period} in {rows} rows").ok()?;
+    if let Some(names) = names {
+        write!(told, " with {names}").ok()?;
+    }
+    Some(told)
+}
+
+/// The numbers of jobs, each behind a space.
+fn tell_jobs(alloc: Global, jobs: &[u64]) -> Option<String> {
+    let mut told = String::new(alloc);
+    for job in jobs {
+        write!(told, " {job}").ok()?;
+    }
+    Some(told)
+}
+
+/// Work that is asked for.
+fn tell_work(
+    alloc: Global,
+    period: u32,
+    steps: u32,
+    until: Option<u64>,
+    file: &str,
+    jobs: &[u64],
+) -> Option<String> {
+    let jobs = tell_jobs(alloc, jobs)?;
+    let mut told = format!(in alloc;
+        "work on job{jobs} of {file} at period {period} in {steps} steps"
+    ).ok()?;
+    if let Some(bound) = until {
+        write!(told, " below {bound}").ok()?;
+    }
+    Some(told)
+}
+
+fn tell_graft(alloc: Global, period: u32, file: &str, base: &str) -> Option<String> {
+    format!(in alloc; "graft {file} onto {base} at period {period}").ok()
+}
+
+/// The same with marked walks.
+fn with_walks(told: String) -> Option<String> {
+    let mut told = told;
+    told.push_str(", with marked walks").ok()?;
+    Some(told)
+}
+
+/// The same of a share of the regions alone, where one is named.
+fn with_share(told: String, share: Option<Share>) -> Option<String> {
+    let mut told = told;
+    if let Some(Share { number, of }) = share {
+        write!(told, ", share {number} of {of}").ok()?;
+    }
+    Some(told)
+}
+
+/// What is asked of an instance.
+fn tell_of_instance(
+    alloc: Global,
+    period: u32,
+    file: Option<&str>,
+    asked: OfInstance<'_>,
+) -> Option<String> {
     match asked {
         OfInstance::Solve {
             steps,
             from,
             progress,
-        } => write!(
-            told,
-            " solve, {steps} steps, from {from:?}, progress {progress}"
-        )
-        .ok(),
+        } => tell_solve(alloc, period, steps, from, progress, file),
         OfInstance::SolveSharp {
             steps,
             from,
             progress,
-        } => write!(
-            told,
-            " solve sharp, {steps} steps, from {from:?}, progress {progress}"
-        )
-        .ok(),
-        OfInstance::Plan(asked) => tell_plan(asked, told),
+        } => { with_walks(tell_solve(alloc, period, steps, from, progress, file)?) }
+        OfInstance::Plan(asked) => tell_plan(alloc, period, asked, file),
         OfInstance::Conflict { steps, names } => {
-            write!(told, " conflict, {steps} steps, names {names:?}").ok()
+            tell_conflict(alloc, period, steps, file, names)
         }
     }
 }
 
-/// Tells what is asked of a certificate.
-fn tell_of_certificate(asked: OfCertificate, told: &mut String) -> Option<()> {
+/// What is asked of a certificate.
+fn tell_of_certificate(
+    alloc: Global,
+    period: u32,
+    file: &str,
+    asked: OfCertificate,
+) -> Option<String> {
     match asked {
-        OfCertificate::Check => told.push_str(" check").ok(),
-        OfCertificate::CheckSharp => told.push_str(" check sharp").ok(),
-        OfCertificate::Gap => told.push_str(" gap").ok(),
-        OfCertificate::GapJson => told.push_str(" gap as JSON").ok(),
+        OfCertificate::Check => tell_file(alloc, "check", period, file),
+        OfCertificate::CheckSharp => tell_file(alloc, "check with a front", period, file),
+        OfCertificate::Gap => tell_file(alloc, "gap", period, file),
+        OfCertificate::GapJson => tell_file(alloc, "gap as JSON of", period, file),
         OfCertificate::Resume {
             steps,
             seconds,
             progress,
-        } => write!(
-            told,
-            " resume, {steps} steps, seconds {seconds:?}, progress {progress}"
-        )
-        .ok(),
+        } => tell_resume(alloc, period, steps, seconds, progress, file),
         OfCertificate::ResumeSharp {
             steps,
             seconds,
             progress,
             share,
         } => {
-            let share = share.map(|share| (share.number, share.of));
-            write!(
-                told,
-                " resume sharp, {steps} steps, seconds {seconds:?}, progress {progress}, share {share:?}"
-            )
-            .ok()
+            let told = tell_resume(alloc, period, steps, seconds, progress, file)?;
+            with_share(with_walks(told)?, share)
         }
-        OfCertificate::Split => told.push_str(" split").ok(),
-        OfCertificate::SplitSharp => told.push_str(" split sharp").ok(),
+        OfCertificate::Split => tell_file(alloc, "split", period, file),
+        OfCertificate::SplitSharp => tell_file(alloc, "split with a front", period, file),
     }
 }
 
-/// Tells what is asked of open leaves.
-fn tell_of_leaves(asked: OfLeaves, told: &mut String) -> Option<()> {
-    match asked {
-        OfLeaves::Work { steps, until, jobs } => {
-            write!(told, " work, {steps} steps, until {until:?}, jobs {jobs:?}").ok()
-        }
-        OfLeaves::WorkSharp { steps, until, jobs } => {
-            write!(
-                told,
-                " work sharp, {steps} steps, until {until:?}, jobs {jobs:?}"
-            )
-            .ok()
-        }
-    }
+/// What is to be fixed.
+fn tell_fix(
+    alloc: Global,
+    period: u32,
+    file: &str,
+    names: Option<&str>,
+    events: &str,
+    lines: &str,
+) -> Option<String> {
+    let mut told = tell_sheet(alloc, "fix", period, file, names)?;
+    write!(told, ", events '{events}', lines '{lines}'").ok()?;
+    Some(told)
 }
 
-/// Tells what is asked of times.
-fn tell_of_times(asked: OfTimes<'_>, told: &mut String) -> Option<()> {
+/// What is asked of times.
+fn tell_of_times(alloc: Global, period: u32, file: &str, asked: OfTimes<'_>) -> Option<String> {
     match asked {
-        OfTimes::Report { names } => write!(told, " report, names {names:?}").ok(),
-        OfTimes::Violations { names } => write!(told, " violations, names {names:?}").ok(),
-        OfTimes::Picture { rows, names } => {
-            write!(told, " draw, {rows} rows, names {names:?}").ok()
+        OfTimes::Report { names } => tell_sheet(alloc, "report", period, file, names),
+        OfTimes::Violations { names } => {
+            tell_sheet(alloc, "report violations of", period, file, names)
         }
-        OfTimes::Diagrams { names, along } => {
-            write!(told, " diagram, names {names:?}, along {along:?}").ok()
+        OfTimes::Picture { rows, names } => tell_picture(alloc, period, rows, names, file),
+        OfTimes::Diagrams { names, along } => { tell_diagrams(alloc, period, file, names, along) }
+        OfTimes::Timetable { names, json: false } => {
+            tell_sheet(alloc, "timetable", period, file, names)
         }
-        OfTimes::Timetable { names, json } => {
-            write!(told, " timetable, names {names:?}, JSON {json}").ok()
+        OfTimes::Timetable { names, json: true } => {
+            tell_sheet(alloc, "timetable in JSON of", period, file, names)
         }
         OfTimes::Fix {
             names,
             events,
             lines,
-        } => write!(
-            told,
-            " fix, names {names:?}, events {events:?}, lines {lines:?}"
-        )
-        .ok(),
-        OfTimes::Page { names } => write!(told, " page, names {names:?}").ok(),
+        } => { tell_fix(alloc, period, file, names, events, lines) }
+        OfTimes::Page { names } => tell_sheet(alloc, "page", period, file, names),
     }
 }
 
-/// Tells what is asked, and of what.
-fn tell_asked(asked: Asked<'_>, told: &mut String) -> Option<()> {
+/// What is asked of open leaves.
+fn tell_of_leaves(alloc: Global, period: u32, file: &str, asked: OfLeaves) -> Option<String> {
     match asked {
-        Asked::Instance { file, asked } => {
-            write!(told, " file {file:?},").ok()?;
-            tell_of_instance(asked, told)
+        OfLeaves::Work { steps, until, jobs } => {
+            tell_work(alloc, period, steps, until, file, &jobs)
         }
-        Asked::Certificate { file, asked } => {
-            write!(told, " file {file:?},").ok()?;
-            tell_of_certificate(asked, told)
-        }
-        Asked::Leaves { file, asked } => {
-            write!(told, " file {file:?},").ok()?;
-            tell_of_leaves(asked, told)
-        }
-        Asked::Times { file, asked } => {
-            write!(told, " file {file:?},").ok()?;
-            tell_of_times(asked, told)
-        }
-        Asked::Works {
-            file,
-            base,
-            asked: OfWorks::Graft,
-        } => write!(told, " file {file:?}, graft, base {base:?}").ok(),
-        Asked::Works { file, base, .. } => {
-            write!(told, " file {file:?}, graft sharp, base {base:?}").ok()
+        OfLeaves::WorkSharp { steps, until, jobs } => {
+            with_walks(tell_work(alloc, period, steps, until, file, &jobs)?)
         }
     }
 }
 
-/// Tells what is asked for at which period.
-fn tell_request(request: Request<'_>, told: &mut String) -> Option<()> {
-    write!(told, " period {},", request.period).ok()?;
-    tell_asked(request.asked, told)
+/// What is asked of works.
+fn tell_of_works(
+    alloc: Global,
+    period: u32,
+    file: &str,
+    base: &str,
+    asked: OfWorks,
+) -> Option<String> {
+    let told = tell_graft(alloc, period, file, base)?;
+    match asked {
+        OfWorks::Graft => Some(told),
+        OfWorks::GraftSharp => with_walks(told),
+    }
 }
 
-/// Tells the kind of a fault and the exit status.
-fn tell_error(error: &Error, told: &mut String) -> Option<()> {
+/// What is asked for.
+fn tell_request(alloc: Global, request: Request<'_>) -> Option<String> {
+    let Request { period, asked } = request;
+    match asked {
+        Asked::Instance { file, asked } => tell_of_instance(alloc, period, file, asked),
+        Asked::Certificate { file, asked } => tell_of_certificate(alloc, period, file, asked),
+        Asked::Leaves { file, asked } => tell_of_leaves(alloc, period, file, asked),
+        Asked::Times { file, asked } => tell_of_times(alloc, period, file, asked),
+        Asked::Works { file, base, asked } => tell_of_works(alloc, period, file, base, asked),
+    }
+}
+
+/// The kind of a fault and the exit status.
+fn tell_error(alloc: Global, error: &Error) -> Option<String> {
     let kind = error.kind();
     let status = error.exit_code();
-    write!(told, " {kind:?}, status {status}").ok()
+    format!(in alloc; "{kind:?}, status {status}").ok()
 }
 
-/// Tells what a command line asks for, or the kind of its fault and the exit status.
-pub(crate) fn ask_command(alloc: Global, line: &str, told: &mut String) -> Option<()> {
-    let words = words_with_name(alloc, line)?;
-    match request_of(alloc, &words) {
-        Ok(request) => tell_request(request, told),
-        Err(error) => tell_error(&error, told),
+fn tell_words(alloc: Global, words: &[String]) -> Option<String> {
+    match request_of(alloc, words) {
+        Ok(request) => tell_request(alloc, request),
+        Err(error) => tell_error(alloc, &error),
     }
+}
+
+/// What a command line asks for, or the kind of its fault and the exit status.
+pub(crate) fn ask_command(alloc: Global, line: &str) -> Option<String> {
+    tell_words(alloc, &words_with_name(alloc, line)?)
 }

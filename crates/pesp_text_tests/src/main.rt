@@ -1,19 +1,24 @@
-//! Command lines of the program, and texts, case by case: each case has files, devices that fail or take pieces, and one question a
-//! line. Prints each question with its answer.
+//! Texts and command lines of the program, case by case: each case has files, devices that fail or take pieces, and one question
+//! a line. Prints each question with its answer.
 #![tactic(auto)]
 
+mod certificates;
 mod commands;
 mod desk;
 mod devices;
 mod drain;
 mod feed;
 mod given;
-mod items;
+mod instances;
 mod page;
-mod parts;
+mod pictures;
+mod pieces;
 mod played;
 mod programs;
+mod reports;
+mod spellings;
 mod streams;
+mod works;
 
 use pesp_cases::cases_of;
 use played::play;
@@ -39,7 +44,7 @@ fn run<R: AllocGlobal + Input + Print>(rt: &R) -> Option<()> {
 fn tell_cases(alloc: Global, text: &str) -> Option<String> {
     let mut told = String::new(alloc);
     for lines in &cases_of(alloc, text)? {
-        play(alloc, lines, &mut told)?;
+        told.push_str(play(alloc, lines)?.as_str()).ok()?;
     }
     Some(told)
 }

@@ -3,11 +3,12 @@
 use crate::commands::words_with_name;
 use crate::desk::{Desk, Pages};
 use crate::devices::Device;
-use crate::given::device_of;
-use pesp_cases::{add_joined, split_word, text_of};
+use crate::given::{device_of, text_of};
+use crate::pictures::{tell_bars, tell_shapes, tell_texts};
+use pesp_cases::split_word;
 use pesp_cli::status_of_words;
 use pesp_sharp_proposals::TreeSharpener;
-use pesp_solver::TimesSearch;
+use pesp_times::TimesSearch;
 use std::alloc::Global;
 
 /// What is told of the end of a command line.
@@ -19,35 +20,44 @@ pub(crate) enum View {
     Status,
     /// The same as the whole without what was written.
     Told,
+    /// The bars of the picture that was written.
+    Bars,
+    /// The texts of the picture that was written.
+    Texts,
+    /// The titled shapes of the picture that was written.
+    Shapes,
 }
 
 /// How a command line ends.
 #[derive(Drop)]
-pub(crate) struct CommandEnd {
-    pub(crate) status: u8,
-    pub(crate) pages: Pages,
+struct CommandEnd {
+    status: u8,
+    pages: Pages,
 }
 
-/// Tells the lines of what went out behind a mark, where something did.
-fn tell_page(mark: &str, bytes: &[u8], told: &mut String) -> Option<()> {
-    if bytes.is_empty() {
-        return Some(());
+/// The lines of a text, each with a `/` for its end.
+pub(crate) fn joined(alloc: Global, bytes: &[u8]) -> Option<String> {
+    let mut text = String::new(alloc);
+    for byte in bytes {
+        let letter = if *byte == b'\n' {
+            '/'
+        } else {
+            char::from(*byte)
+        };
+        text.push(letter).ok()?;
     }
-    told.push_str(mark).ok()?;
-    add_joined(bytes, told)
+    Some(text)
 }
 
-/// Tells the status of an end, and what else is to be seen of it.
-pub(crate) fn tell_end(end: &CommandEnd, view: View, told: &mut String) -> Option<()> {
-    write!(told, " {}", end.status).ok()?;
-    match view {
-        View::Status => Some(()),
-        View::Told => tell_page(" told ", &end.pages.told, told),
-        View::Whole => {
-            tell_page(" ", &end.pages.written, told)?;
-            tell_page(" told ", &end.pages.told, told)
-        }
+/// The status, and behind it what was written and, behind `told`, what went to standard error.
+fn tell_pages(alloc: Global, status: u8, written: &[u8], told: &[u8]) -> Option<String> {
+    let space = if written.is_empty() { "" } else { " " };
+    let text = joined(alloc, written)?;
+    if told.is_empty() {
+        return format!(in alloc; "{status} {text}").ok();
     }
+    let lines = joined(alloc, told)?;
+    format!(in alloc; "{status}{space}{text} told {lines}").ok()
 }
 
 /// How a command line ends over a standard input.
@@ -117,7 +127,7 @@ fn run_stage(
 
 /// How such stages end that are parted by ` | `, each over what the one before it has written: as the first that doesn't end with
 /// status 0, or else as the last.
-pub(crate) fn run_all(
+fn run_all(
     alloc: Global,
     lines: &[&str],
     input: Vec<u8>,
@@ -133,42 +143,51 @@ pub(crate) fn run_all(
     Some(end)
 }
 
-/// How command lines end over the input of a case and its device.
-pub(crate) fn end_of(alloc: Global, lines: &[&str], commands: &str) -> Option<CommandEnd> {
-    let device = device_of(alloc, lines, "input")?;
-    run_all(
-        alloc,
-        lines,
-        text_of(alloc, lines, "input")?,
-        device,
-        commands,
-    )
+/// What is told of an end.
+fn tell_end(alloc: Global, end: &CommandEnd, view: View) -> Option<String> {
+    let Pages { written, told } = &end.pages;
+    match view {
+        View::Status => format!(in alloc; "{}", end.status).ok(),
+        View::Told => tell_pages(alloc, end.status, b"", told),
+        View::Bars if end.status == 0 => tell_bars(alloc, str::from_utf8(written).ok()?),
+        View::Texts if end.status == 0 => tell_texts(alloc, str::from_utf8(written).ok()?),
+        View::Shapes if end.status == 0 => tell_shapes(alloc, str::from_utf8(written).ok()?),
+        _ => tell_pages(alloc, end.status, written, told),
+    }
 }
 
-/// Tells how command lines end over the input of a case.
+/// How command lines end over the input of a case and a device.
+fn ask(
+    alloc: Global,
+    lines: &[&str],
+    device: Device,
+    commands: &str,
+    view: View,
+) -> Option<String> {
+    let input = text_of(alloc, lines, "input")?;
+    let end = run_all(alloc, lines, input, device, commands)?;
+    tell_end(alloc, &end, view)
+}
+
+/// How command lines end over the input of a case.
 pub(crate) fn ask_program(
     alloc: Global,
     lines: &[&str],
     commands: &str,
     view: View,
-    told: &mut String,
-) -> Option<()> {
-    tell_end(&end_of(alloc, lines, commands)?, view, told)
+) -> Option<String> {
+    ask(
+        alloc,
+        lines,
+        device_of(alloc, lines, "input")?,
+        commands,
+        view,
+    )
 }
 
-/// Tells the same, where standard input gives at most so many bytes at a call as the first word says.
-pub(crate) fn ask_in_pieces(
-    alloc: Global,
-    lines: &[&str],
-    rest: &str,
-    told: &mut String,
-) -> Option<()> {
+/// The same, where standard input gives at most so many bytes at a call as the first word says.
+pub(crate) fn ask_in_pieces(alloc: Global, lines: &[&str], rest: &str) -> Option<String> {
     let (piece, commands) = split_word(rest);
     let device = device_of(alloc, lines, "input")?.in_pieces(piece.parse().ok()?);
-    let input = text_of(alloc, lines, "input")?;
-    tell_end(
-        &run_all(alloc, lines, input, device, commands)?,
-        View::Whole,
-        told,
-    )
+    ask(alloc, lines, device, commands, View::Whole)
 }

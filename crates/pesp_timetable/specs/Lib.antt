@@ -1,3 +1,4 @@
 pub mod Timetable
 pub mod Objects
 pub mod Texts
+pub mod Fixing

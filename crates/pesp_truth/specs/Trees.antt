@@ -126,13 +126,12 @@ abbrev pub PairsExist : Claim → List (List SignedRow) → List Pair → Type 0
 PairsExist (Plain least) table pairs = All (λ pair. Names (length table) pair.cycle) pairs
 PairsExist (Behind marks facts goal) table pairs = AreNamed (length table) (length marks.walks + length facts) pairs
 
--- what the scale times the sum is at least in the node, by these pairs
+-- what the sum is at least in the node, by these pairs, under some weights: by the scale, and in whole numbers
 abbrev pub value_by : Marks → List Lemma → Net → List (List SignedRow) → Node → List Pair → (ℕ → ℤ) → Option ℤ
 value_by marks facts n table node pairs weights =
     lemma_value n table node (multipliers (length table) marks pairs)
     (of_lemmas (length table + length marks.walks) facts pairs) weights
 
--- what the sum is at least there: that value divided by the scale, rounded up
 abbrev pub value_rounded : Marks → List Lemma → Net → List (List SignedRow) → Node → List Pair → (ℕ → ℤ) → Option ℤ
 value_rounded marks facts n table node pairs weights =
     lemma_bound n table node (multipliers (length table) marks pairs)

@@ -1,8 +1,7 @@
 //! Solves, within a limit.
 
 use crate::shared::Shared;
-use pesp_basis::{ONE, parts, rounded, whole};
-use pesp_dual_simplex::SolveStatus;
+use pesp_dual_simplex::{ONE, SolveStatus, parts, rounded, whole};
 use pesp_sharp_nodes::{Limit, Setting};
 use std::alloc::AllocError;
 

@@ -1,39 +1,134 @@
-use Rattle.std.proofs.Common.{◌∙◌, ap, sym, subst, inl, length}
+use Rattle.std.proofs.Common.{◌≡◌, ◌∙◌, ◌+◌, ◌≤◌, arith, ap, refl, sym, subst, inl, inr, ℕ, List, length}
+use Rattle.std.specs.Prelude.{All}
+use Rattle.pesp_problem.specs.declared.row.SignedRow.{SignedRow}
 use Rattle.pesp_problem.specs.Timetables.{Pesp}
+use Rattle.pesp_problem.specs.Arcs.{arcs_of}
+use Rattle.pesp_truth.specs.declared.tree.TreeLine.{TreeLine}
+use Rattle.pesp_truth.proofs.FrontLimits.{limits_of}
+use Rattle.pesp_cert.specs.Limits.{total_rows}
+use Rattle.pesp_judges.specs.Faults.{IsCycleFault}
+use Rattle.pesp_judges.specs.Lines.{KeepsLineLimits}
+use Rattle.pesp_truth.specs.Shown.{LemmaProof}
 use Rattle.pesp_leaves.specs.Taken.{HaveRows}
 use Rattle.pesp_judges.specs.Showing.{kept_of_lemma}
 use Rattle.pesp_check.proofs.Limits.{shown_within}
+use Rattle.pesp_check.proofs.Fronts.{of_none}
 use Rattle.pesp_check.proofs.LemmaCheck.{whole_lemma}
 use Rattle.pesp_check.proofs.lemma_check.judge_lemma.Goals as goal
 
-pub parts_fault-found-requires-clause-rows : goal.parts_fault-found-requires-clause-rows
-parts_fault-found-requires-clause-rows c =
-    let begun = rw c.in-Ok.is at c.in_ok-judge.ensures in
-    let H : Pesp → Type 0 = λ p. HaveRows (length p.rows) c.args.facts.now in
-    subst H (sym begun.0) c.requires.rows
+pub cycles_fault-requires-clause-few : goal.cycles_fault-requires-clause-few
+cycles_fault-requires-clause-few c =
+    let w = shown_within c.args.lemma.now c.requires.limits in
+    let same : c.deref.result.now ≡ c.args.lemma.now.cycles = c.deref.ensures.value ∙ ap (λ (s : LemmaProof). s.cycles) c.lemma.view_is in
+    let P : List (List SignedRow) → Type 0 = λ cs. length cs ≤ 100000 in subst P (sym same) w.within.cycles
 
-pub parts_fault-found-requires-clause-begun : goal.parts_fault-found-requires-clause-begun
-parts_fault-found-requires-clause-begun c =
-    let begun = rw c.in-Ok.is at c.in_ok-judge.ensures in
-    rw begun.0 begun.1
+pub cycles_fault-requires-clause-rows : goal.cycles_fault-requires-clause-rows
+cycles_fault-requires-clause-rows c =
+    let w = shown_within c.args.lemma.now c.requires.limits in
+    let same : c.deref.result.now ≡ c.args.lemma.now.cycles = c.deref.ensures.value ∙ ap (λ (s : LemmaProof). s.cycles) c.lemma.view_is in
+    let P : List (List SignedRow) → Type 0 = λ cs. total_rows cs ≤ 10000000 in subst P (sym same) w.rows
 
-pub parts_fault-found-requires-clause-long : goal.parts_fault-found-requires-clause-long
-parts_fault-found-requires-clause-long c =
+pub cycles_fault-requires-clause-line : goal.cycles_fault-requires-clause-line
+cycles_fault-requires-clause-line c =
+    let w = shown_within c.args.lemma.now c.requires.limits in
+    let few = (limits_of c.args.lemma.now.marks w.within.marks).walks in
+    let walks = ap (λ (x : LemmaProof). length x.marks.walks) c.lemma.view_is in
+    let l = c.lemma.inside.walks.ok.0 in
+    omega (arith, few, walks, l, c.len.ensures, c.requires.line)
+
+pub cycles_fault-requires-clause-long : goal.cycles_fault-requires-clause-long
+cycles_fault-requires-clause-long c =
     let begun = rw c.in-Ok.is at c.in_ok-judge.ensures in
     c.requires.long ∙ ap (λ (p : Pesp). length p.rows) (sym begun.0)
+
+pub lines_fault-requires-clause-first : goal.lines_fault-requires-clause-first
+lines_fault-requires-clause-first c =
+    let w = shown_within c.args.lemma.now c.requires.limits in
+    let few = (limits_of c.args.lemma.now.marks w.within.marks).walks in
+    let walks = ap (λ (x : LemmaProof). length x.marks.walks) c.lemma.view_is in
+    let cycles = ap (λ (x : LemmaProof). length x.cycles) c.lemma.view_is in
+    let l = c.lemma.inside.walks.ok.0 in
+    let m = c.lemma.inside.cycles.ok.0 in
+    omega (arith, few, w.within.cycles, walks, cycles, l, m, c.len.ensures, c.len-2.ensures, c.requires.line)
+
+pub lines_fault-requires-clause-rows : goal.lines_fault-requires-clause-rows
+lines_fault-requires-clause-rows c =
+    let begun = rw c.in-Ok.is at c.in_ok-judge.ensures in
+    let H : Pesp → Type 0 = λ p. HaveRows (length p.rows) c.args.facts.now in
+    subst H (sym (c.in_ok-found.ensures.instance ∙ begun.0)) c.requires.rows
+
+pub lines_fault-requires-clause-long : goal.lines_fault-requires-clause-long
+lines_fault-requires-clause-long c =
+    let begun = rw c.in-Ok.is at c.in_ok-judge.ensures in
+    c.cycles_fault.auto.working ∙ c.requires.long
+    ∙ ap (λ (p : Pesp). length p.rows) (sym (c.in_ok-found.ensures.instance ∙ begun.0))
+
+pub lines_fault-requires-clause-limits : goal.lines_fault-requires-clause-limits
+lines_fault-requires-clause-limits c =
+    let w = shown_within c.args.lemma.now c.requires.limits in
+    let same : c.deref-2.result.now ≡ c.args.lemma.now.tree = c.deref-2.ensures.value ∙ ap (λ (s : LemmaProof). s.tree) c.lemma.view_is in
+    let P : List TreeLine → Type 0 = All KeepsLineLimits in subst P (sym same) w.each_line
+
+pub lines_fault-requires-clause-few : goal.lines_fault-requires-clause-few
+lines_fault-requires-clause-few c =
+    let w = shown_within c.args.lemma.now c.requires.limits in
+    let same : c.deref-2.result.now ≡ c.args.lemma.now.tree = c.deref-2.ensures.value ∙ ap (λ (s : LemmaProof). s.tree) c.lemma.view_is in
+    let P : List TreeLine → Type 0 = λ ls. length ls ≤ 1000000 in subst P (sym same) w.lines
 
 pub returns-in-Err-clause-verdict : goal.returns-in-Err-clause-verdict
 returns-in-Err-clause-verdict c = inl (rw c.in-Err.is at c.in_ok-judge.ensures)
 
-pub returns-in-None-clause-verdict : goal.returns-in-None-clause-verdict
-returns-in-None-clause-verdict c =
-    let begun = rw c.in-Ok.is at c.in_ok-judge.ensures in
-    let s = c.args.lemma.now in
-    let whole = rw (c.in-None.is, begun.0) at c.in_ok-found.ensures.verdict in
-    whole_lemma c.args.instance.now c.args.facts.now s c.args.at (kept_of_lemma c.parts_fault-found.new.judge) c.into_lemma-fact.result
-    (shown_within s c.requires.limits).within whole c.into_lemma-fact.ensures.lemma
-
 pub returns-in-Some-clause-verdict : goal.returns-in-Some-clause-verdict
 returns-in-Some-clause-verdict c =
+    let p = c.args.instance.now in
+    let s = c.args.lemma.now in
+    let w = shown_within s c.requires.limits in
     let begun = rw c.in-Ok.is at c.in_ok-judge.ensures in
-    rw (c.in-Some.is, begun.0) at c.in_ok-found.ensures.verdict
+    let same : s.cycles ≡ c.deref.result.now = sym (c.deref.ensures.value ∙ ap (λ (x : LemmaProof). x.cycles) c.lemma.view_is) in
+    let walks = ap (λ (x : LemmaProof). length x.marks.walks) c.lemma.view_is in
+    let first : c.args.at + 2 + c.len.result ≡ c.args.at + 2 + length s.marks.walks =
+    (let l = c.lemma.inside.walks.ok.0 in omega (arith, l, walks, c.len.ensures)) in
+    let told = (rw begun.0 at c.in_ok-found.ensures.verdict) s c.args.at w.within same first begun.1 in
+    let N : ℕ → Type 0 = λ n. IsCycleFault (arcs_of p) s.cycles n c.in-Some.refusal in
+    inr (inl (begun.1.rows, subst N first (rw c.in-Some.is at told)))
+
+pub returns-in-Some-found-clause-verdict : goal.returns-in-Some-found-clause-verdict
+returns-in-Some-found-clause-verdict c =
+    let p = c.args.instance.now in
+    let s = c.args.lemma.now in
+    let w = shown_within s c.requires.limits in
+    let begun = rw c.in-Ok.is at c.in_ok-judge.ensures in
+    let same : s.cycles ≡ c.deref.result.now = sym (c.deref.ensures.value ∙ ap (λ (x : LemmaProof). x.cycles) c.lemma.view_is) in
+    let lines : s.tree ≡ c.deref-2.result.now = sym (c.deref-2.ensures.value ∙ ap (λ (x : LemmaProof). x.tree) c.lemma.view_is) in
+    let walks = ap (λ (x : LemmaProof). length x.marks.walks) c.lemma.view_is in
+    let cycles = ap (λ (x : LemmaProof). length x.cycles) c.lemma.view_is in
+    let first : c.args.at + 2 + c.len.result ≡ c.args.at + 2 + length s.marks.walks =
+    (let l = c.lemma.inside.walks.ok.0 in omega (arith, l, walks, c.len.ensures)) in
+    let told = (rw begun.0 at c.in_ok-found.ensures.verdict) s c.args.at w.within same first begun.1 in
+    let came = of_none c.in_ok-found.found _ _ c.in_default.not-Some told in
+    let begins : c.args.at + 2 + c.len.result + 1 + c.len-2.result ≡ c.args.at + 3 + length s.marks.walks + length s.cycles =
+    (let l = c.lemma.inside.cycles.ok.0 in omega (arith, l, cycles, first, c.len-2.ensures)) in
+    let tree = (rw (c.in_ok-found.ensures.instance ∙ begun.0) at c.in_ok-found-2.ensures.verdict) s c.args.at w.within lines begins
+    (inl (refl, came)) in
+    rw c.in-Some-found.is at tree
+
+pub returns-clause-verdict : goal.returns-clause-verdict
+returns-clause-verdict c =
+    let p = c.args.instance.now in
+    let s = c.args.lemma.now in
+    let w = shown_within s c.requires.limits in
+    let begun = rw c.in-Ok.is at c.in_ok-judge.ensures in
+    let same : s.cycles ≡ c.deref.result.now = sym (c.deref.ensures.value ∙ ap (λ (x : LemmaProof). x.cycles) c.lemma.view_is) in
+    let lines : s.tree ≡ c.deref-2.result.now = sym (c.deref-2.ensures.value ∙ ap (λ (x : LemmaProof). x.tree) c.lemma.view_is) in
+    let walks = ap (λ (x : LemmaProof). length x.marks.walks) c.lemma.view_is in
+    let cycles = ap (λ (x : LemmaProof). length x.cycles) c.lemma.view_is in
+    let first : c.args.at + 2 + c.len.result ≡ c.args.at + 2 + length s.marks.walks =
+    (let l = c.lemma.inside.walks.ok.0 in omega (arith, l, walks, c.len.ensures)) in
+    let told = (rw begun.0 at c.in_ok-found.ensures.verdict) s c.args.at w.within same first begun.1 in
+    let came = of_none c.in_ok-found.found _ _ c.in_default.not-Some told in
+    let begins : c.args.at + 2 + c.len.result + 1 + c.len-2.result ≡ c.args.at + 3 + length s.marks.walks + length s.cycles =
+    (let l = c.lemma.inside.cycles.ok.0 in omega (arith, l, cycles, first, c.len-2.ensures)) in
+    let tree = (rw (c.in_ok-found.ensures.instance ∙ begun.0) at c.in_ok-found-2.ensures.verdict) s c.args.at w.within lines begins
+    (inl (refl, came)) in
+    let whole = of_none c.in_ok-found-2.found _ _ c.in_default-found.not-Some tree in
+    whole_lemma p c.args.facts.now s c.args.at (kept_of_lemma c.lines_fault.new.judge) c.into_lemma.result w.within whole c.into_lemma.ensures.lemma

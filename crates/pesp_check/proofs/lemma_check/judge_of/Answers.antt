@@ -15,8 +15,8 @@ returns-in-Err c =
     let N : List Pair → Type 0 = λ weights. NamesRows (arcs_of c.args.instance.now) weights → ⊥ in
     (found.0, subst N c.in_ok-fact.ensures found.1)
 
-pub returns-in-Ok-take_walks : goal.returns-in-Ok-take_walks
-returns-in-Ok-take_walks c =
+pub returns : goal.returns
+returns c =
     let p = c.args.instance.now in
     let inside = c.lemma.inside in
     let s : LemmaProof = record {
@@ -37,10 +37,9 @@ returns-in-Ok-take_walks c =
       scale = inside.scale;
       walks = ws;
     } in
-    let walked = rw c.in-Ok-take_walks.is at c.take_walks.ensures.kept in
-    let is = walked ∙ ap W (c.take_scale.ensures.kept ∙ ap S (least ∙ ap L found.2))
+    let is = c.in_ok-take_walks.ensures.kept ∙ ap W (c.take_scale.ensures.kept ∙ ap S (least ∙ ap L found.2))
     ∙ ap E c.deref.ensures.value in
     let P : LemmaProof → Type 0 = λ x. CyclesShown p x c.args.at (kept_of_lemma c.take_walks.new.judge) 0 in (
-      c.take_walks.ensures.instance ∙ c.take_scale.ensures.instance ∙ c.take_least.ensures.instance ∙ found.0,
+      c.in_ok-take_walks.ensures.instance ∙ c.take_scale.ensures.instance ∙ c.take_least.ensures.instance ∙ found.0,
       subst P c.lemma.view_is (head_came p s c.args.at c.in_ok-fact.fact.weights _ found.1 weights is),
     )

@@ -12,7 +12,7 @@ returns-in_default-clause-told c p own few =
     plain_from (λ m. m.now) c.args.marks c.args.facts.now (net_of p) c.args.least c.in_default.not-Some
 
 pub returns-in_default-clause-room : goal.returns-in_default-clause-room
-returns-in_default-clause-room c rows rates there = tt
+returns-in_default-clause-room c rows taken rates there = tt
 
 pub returns-clause-fits : goal.returns-clause-fits
 returns-clause-fits c p rows fits = shown_fits p _ rows (fits c.in-Some.marks c.in-Some.is)
@@ -23,4 +23,4 @@ returns-clause-told c p own few =
     (cost_goal (net_of p) c.args.least, refl, told_of p _ c.args.least _ (own c.in-Some.marks c.in-Some.is) (c.least_sum.ensures few))
 
 pub returns-clause-room : goal.returns-clause-room
-returns-clause-room c rows rates there = there c.in-Some.marks c.in-Some.is
+returns-clause-room c rows taken rates there = there c.in-Some.marks c.in-Some.is

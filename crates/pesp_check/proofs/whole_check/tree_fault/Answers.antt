@@ -31,11 +31,12 @@ judge_tree-requires-clause-lines c =
 pub judge_tree-requires-clause-room : goal.judge_tree-requires-clause-room
 judge_tree-requires-clause-room c =
     let front = c.args.front.now in
-    let rates = ap length c.deref_mut.ensures.value in
+    let taken = ap length c.deref_mut.ensures.value in
+    let rates = ap length c.deref_mut-2.ensures.value in
     rw (c.new-checker.ensures.claim, c.new-checker.ensures.instance)
-    (c.claim_over-claim.ensures.room (length c.args.instance.now.rows) _ (for_marks (λ m. m.now) c.marks_of.result front
+    (c.claim_over-claim.ensures.room (length c.args.instance.now.rows) _ _ (for_marks (λ m. m.now) c.marks_of.result front
     (λ (m : Marks). _) c.marks_of.ensures
-    (room_there front c.args.instance.now c.in_ok-room.room _ _ refl rates
+    (room_there front c.args.instance.now c.in_ok-room.room _ _ _ refl taken rates
     (if_behind front _ c.is_some.result c.is_some.ensures c.in_ok-room.ensures))))
 
 pub returns : goal.returns

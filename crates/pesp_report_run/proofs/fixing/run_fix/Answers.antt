@@ -14,5 +14,5 @@ pub returns-clause-ok : goal.returns-clause-ok
 returns-clause-ok g c = (
   c.in_ok-instance.instance,
   c.in_ok-instance.ensures.ok,
-  (c.in_ok-times.times.items, (c.in_ok-times.ensures.ok, c.in_ok-times.ensures.times), c.in_ok-refused.ensures.ok),
+  (c.in_ok-times.times.items, c.in_ok-times.ensures.ok, c.in_ok-times.ensures.times, c.in_ok-refused.ensures.ok),
 )

@@ -24,7 +24,8 @@ returns-clause-ok g c =
       c.in_ok-instance.ensures.ok,
       (
         c.in_ok-times.times.items,
-        (c.in_ok-times.ensures.ok, c.in_ok-times.ensures.times),
+        c.in_ok-times.ensures.ok,
+        c.in_ok-times.ensures.times,
         violations_told c.in_ok-instance.instance _ _ _ _ _ _ c.deref.ensures.value out.count out.text,
       ),
     )

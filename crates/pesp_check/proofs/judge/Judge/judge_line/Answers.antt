@@ -53,10 +53,11 @@ pub take_line-requires-clause-room : goal.take_line-requires-clause-room
 take_line-requires-clause-room c =
     let j = c.args.self.now in
     let some = ap is_some c.in-Some.is in
-    let rates = ap length c.deref_mut.ensures.value in
+    let taken = ap length c.deref_mut.ensures.value in
+    let rates = ap length c.deref_mut-2.ensures.value in
     rw (c.new-checker.ensures.claim, c.new-checker.ensures.instance)
-    (c.claim_over-claim.ensures.room _ _ (lent_for (λ m. m.now) _ c.as_ref-marks.result j.front c.as_ref-marks.ensures.value
-    (λ m is. rates ∙ (j.roomy some m is).rates)))
+    (c.claim_over-claim.ensures.room _ _ _ (lent_for (λ m. m.now) _ c.as_ref-marks.result j.front c.as_ref-marks.ensures.value
+    (λ m is. (taken ∙ (j.roomy some m is).taken, rates ∙ (j.roomy some m is).rates))))
 
 pub returns-in-Some-found-clause-judged : goal.returns-in-Some-found-clause-judged
 returns-in-Some-found-clause-judged c front c' rest has before =

@@ -15,9 +15,8 @@ returns-in-Some-found-clause-judged c front c' rest has before =
     rw c.in-Some-found.is at
     (shown_behind j.stage j.instance.now front c' (item_said c.args.line) rest (kept j) (kept_lemma c.in-Some.lemma) has
     (ap (option_map kept_lemma) c.in-Some.is) before new (j.line + 1) c.in_ok-found.found
-    (record (kept j) { line = j.line + 1; lemma = Some new })
-    (record (kept j) { line = j.line + 1; lemma = option_map kept_lemma c.take.new.self })
-    c.requires.goes_on refl told refl (ap (option_map kept_lemma) c.take.ensures.after))
+    (record (kept j) { line = j.line + 1; lemma = Some new }) (record (kept j) { line = j.line + 1; lemma = None })
+    c.requires.goes_on refl told refl refl)
 
 pub returns-clause-judged : goal.returns-clause-judged
 returns-clause-judged c front c' rest has before =

@@ -1,0 +1,32 @@
+use Rattle.std.proofs.Common.{inl, inr}
+use Rattle.std.proofs.lemmas.Result.{on_ok_weaker, IfErr-weaker}
+use Rattle.pesp_check_run.proofs.ReadingLemmas.{told_as}
+use Rattle.pesp_tasks.proofs.graft.run_graft.Goals as goal
+
+pub returns-in_err-works-clause-cause : goal.returns-in_err-works-clause-cause
+returns-in_err-works-clause-cause g c =
+    told_as _ _ _ c.from_residual-in_err-works.ensures.1 (inr (
+      c.in_ok-instance.instance,
+      c.in_ok-instance.ensures.ok,
+      inr (c.in_ok-base.base, c.in_ok-base.ensures.ok, inl c.in_err-works.ensures.cause),
+    ))
+
+pub returns-clause-ok : goal.returns-clause-ok
+returns-clause-ok g c =
+    on_ok_weaker c.write_graft.result (λ written. (
+      c.in_ok-instance.instance,
+      c.in_ok-instance.ensures.ok,
+      (
+        c.in_ok-base.base,
+        c.in_ok-base.ensures.ok,
+        (c.in_ok-works.works.items, c.in_ok-works.ensures.ok, written),
+      ),
+    )) c.write_graft.ensures.ok
+
+pub returns-clause-cause : goal.returns-clause-cause
+returns-clause-cause g c =
+    IfErr-weaker c.write_graft.result _ _ (λ fault out. inr (
+      c.in_ok-instance.instance,
+      c.in_ok-instance.ensures.ok,
+      inr (c.in_ok-base.base, c.in_ok-base.ensures.ok, inr (c.in_ok-works.works.items, c.in_ok-works.ensures.ok, out)),
+    )) c.write_graft.ensures.cause

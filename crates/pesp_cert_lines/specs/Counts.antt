@@ -154,6 +154,10 @@ beginning versions = record {
   shows = false;
 }
 
+-- behind a line at this place
+abbrev pub at_place : Progress → Place → Progress
+at_place p place = record p { place = place }
+
 -- behind a line of the tree that asks for so many trees in place of the one that it is, and has so many pairs
 abbrev pub after_tree : Progress → ℕ → ℕ → Progress
 after_tree p parts pairs = record p { place = places.Tree; needs = (p.needs + parts) - 1; lines = p.lines + 1; pairs = p.pairs + pairs }

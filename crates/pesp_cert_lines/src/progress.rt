@@ -1,7 +1,7 @@
 //! How far a text has come.
 
 ghost use Rattle.std.specs.Prelude.{◌≡◌, ◌≤◌};
-ghost use Rattle.pesp_cert_lines.specs.Counts.{progress_after, after_tree, counted_after, keeps_counts, ProgressIsKept, beginning, may_follow, may_follow_walks, may_end, has_kind, allows, is_in_front, is_behind_front};
+ghost use Rattle.pesp_cert_lines.specs.Counts.{progress_after, at_place, after_tree, counted_after, keeps_counts, ProgressIsKept, beginning, may_follow, may_follow_walks, may_end, has_kind, allows, is_in_front, is_behind_front};
 
 use crate::item::Item;
 use crate::kind::Kind;
@@ -110,20 +110,21 @@ fn after_tree(progress: &Progress, parts: u64, pairs: u64) -> Progress
     }
 }
 
+/// The same with the last line here.
+fn at_place(progress: &Progress, place: Place) -> Progress
+    ensures { result ≡ at_place progress.now place }
+{
+    Progress { place, ..*progress }
+}
+
 /// How far the text has come with this item.
 fn after(progress: &Progress, item: &Item<'_>) -> Progress
     requires { ProgressIsKept progress.now }
     ensures { result ≡ progress_after progress.now item.now }
 {
     match item {
-        Item::Front => Progress {
-            place: Place::Marked,
-            ..*progress
-        },
-        Item::Scale(_) => Progress {
-            place: Place::Walks,
-            ..*progress
-        },
+        Item::Front => at_place(progress, Place::Marked),
+        Item::Scale(_) => at_place(progress, Place::Walks),
         Item::Walk(rows) => Progress {
             place: Place::Walks,
             walks: progress.walks + 1,
@@ -136,23 +137,14 @@ fn after(progress: &Progress, item: &Item<'_>) -> Progress
             shows: true,
             ..Progress::new(progress.versions)
         },
-        Item::Least(_) => Progress {
-            place: Place::Least,
-            ..*progress
-        },
+        Item::Least(_) => at_place(progress, Place::Least),
         Item::Version(version) => Progress {
             place: Place::Header,
             version: *version,
             ..Progress::new(progress.versions)
         },
-        Item::Period(_) => Progress {
-            place: Place::Period,
-            ..*progress
-        },
-        Item::Answer(_) => Progress {
-            place: Place::Times,
-            ..*progress
-        },
+        Item::Period(_) => at_place(progress, Place::Period),
+        Item::Answer(_) => at_place(progress, Place::Times),
         Item::Time(_, _) => Progress {
             times: progress.times + 1,
             ..*progress

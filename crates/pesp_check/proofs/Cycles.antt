@@ -21,7 +21,7 @@ use Rattle.pesp_check.specs.declared.stage.Stage.TheVariants as stages
 use Rattle.pesp_check.specs.Judging.{Kept, is_front, tree_from, FrontIsShown, FrontCame, CyclesTo, JudgedAt}
 use Rattle.pesp_judges.proofs.Closing.{walk_fault, walks_more}
 use Rattle.pesp_judges.proofs.Tables.{nets_more}
-use Rattle.pesp_check.proofs.Refusing.{own_adds, cycle_refused}
+use Rattle.pesp_whole_check.proofs.Refusing.{own_adds, cycle_refused}
 use Rattle.pesp_check.proofs.Fronts.{came_still, shown_of}
 use Rattle.pesp_check.proofs.Passed.{passed, all_cycles}
 use Rattle.pesp_check.proofs.Lists.{IsNext, next_of, cycle_in_tree}

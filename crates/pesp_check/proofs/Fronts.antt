@@ -1,6 +1,6 @@
 -- The front, the period, the answer and the times as they come, and when all of them came.
 use Rattle.std.proofs.Common.{◌≡◌, ◌⊎◌, inl, inr, ℕ, ◌+◌, arith, cond, Bool, true, false, List, [], ◌∷◌, ◌++◌, length, map, take, refl, sym, ap, subst, ◌∙◌, append_assoc, Option, Some, None}
-use Rattle.std.specs.Prelude.{ℤ, IfSome, MatchOption}
+use Rattle.std.specs.Prelude.{ℤ, IfSome}
 use Rattle.std.specs.List.{list_all, sum_by, flat_map}
 use Rattle.std.proofs.lemmas.List.{take_more, take_all}
 use Rattle.pesp_problem.specs.Timetables.{Pesp}
@@ -25,11 +25,12 @@ use Rattle.pesp_check.specs.Items.{is_later, is_mark, ends_lemma, says_no_answer
 use Rattle.pesp_check.specs.declared.stage.Stage.{Stage}
 use Rattle.pesp_check.specs.declared.stage.Stage.TheVariants as stages
 use Rattle.pesp_judges.specs.Faults.{own_line}
-use Rattle.pesp_check.specs.Judging.{Kept, MarksSaid, marks_said, marks_noted, cycles_from, times_from, behind, lemmas_from, walks_from, items_left, LemmasShown, LemmasTo, MarksTo, FrontCame, HeadTo, FrontTo, JudgedAt, IsHeadFault}
+use Rattle.pesp_check.specs.Judging.{Kept, MarksSaid, marks_said, marks_noted, cycles_from, times_from, behind, lemmas_from, walks_from, items_left, LemmasShown, LemmasTo, MarksTo, FrontCame, HeadTo, FrontTo, JudgedAt}
+use Rattle.pesp_whole_check.specs.Inner.{IsHeadFault}
 use Rattle.pesp_check.proofs.Lists.{IsNext, next_of, cycles_later, tree_later}
 use Rattle.pesp_check.proofs.Lemmas.{next_lemma, lemmas_begin}
 use Rattle.pesp_check.proofs.Passed.{passed, answer_came, all_cycles}
-use Rattle.pesp_check.proofs.Refusing.{own_adds, head_refused}
+use Rattle.pesp_whole_check.proofs.Refusing.{own_adds, head_refused}
 
 -- an item that stands behind a front says nothing of it
 pub own_noted : (f : MarksSaid) (item : LentItem) → f ≡ marks_noted f (listed item)
@@ -585,9 +586,3 @@ module _ (p : Pesp) (front : Option FrontOf) (c : Content) (rest : List Item) (k
     answer = inl (done.answer, ap (list_all says_no_answer) done.left ∙ all_cycles c 0);
     first = head_refused p c refusal front (shown_of p front kept done.came) (rw (done.period, done.answer, done.times) at f);
   }
-
--- what holds where nothing is wrong
-pub of_none : (found : Option Refusal) (P : Type 0) (Q : Refusal → Type 0)
-    → ((refusal : Refusal) → found ≡ Some refusal → ⊥) → MatchOption found P Q → P
-of_none None P Q n h = h
-of_none (Some refusal) P Q n h = absurd (n refusal refl)

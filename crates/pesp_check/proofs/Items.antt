@@ -9,7 +9,7 @@ use Rattle.pesp_cert_lines.specs.Counts.{CanStand, progress_after, keeps_counts}
 use Rattle.pesp_cert_lines.specs.Rows.{is_name}
 use Rattle.pesp_cert_lines.specs.Pairs.{rise_from, all_within}
 use Rattle.pesp_cert_lines.proofs.Tests.{and_right, and_both}
-use Rattle.pesp_check.proofs.Limits.{le_of, pair_limits, weights_keep}
+use Rattle.pesp_whole_check.proofs.Limits.{le_of, pair_limits, weights_keep}
 use Rattle.pesp_check.specs.Items.{KeepsItemLimits}
 
 few_rows : (p : Progress) → keeps_counts p ≡ true → p.rows ≤ 10000000

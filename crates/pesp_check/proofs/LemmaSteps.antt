@@ -25,11 +25,12 @@ use Rattle.pesp_check.specs.declared.stage.Stage.TheVariants as stages
 use Rattle.pesp_check.specs.Judging.{Kept, behind, lemmas_from, lemma_walks_from, line_before, marks_said, AnswerIsLeft, LemmasShown, LemmaTo, FrontTo, JudgedAt}
 use Rattle.pesp_check.proofs.Lists.{cycles_later, tree_later}
 use Rattle.pesp_check.proofs.LemmaItems.{ended, shown_no_answer}
-use Rattle.pesp_check.proofs.Lemmas.{next_lemma, lemmas_begin, shown_more, fault_among}
+use Rattle.pesp_whole_check.proofs.LemmaCheck.{shown_more, fault_among}
+use Rattle.pesp_check.proofs.Lemmas.{next_lemma, lemmas_begin}
 use Rattle.pesp_check.proofs.Passed.{passed, left_lemmas, left_behind_item, left_of_begun}
-use Rattle.pesp_check.proofs.Refusing.{lemmas_refused}
+use Rattle.pesp_whole_check.proofs.Refusing.{lemmas_refused}
 use Rattle.pesp_check.proofs.Fronts.{lemmas_to, marks_of}
-use Rattle.pesp_check.proofs.Limits.{lemma_within}
+use Rattle.pesp_whole_check.proofs.Limits.{lemma_within}
 
 -- what stands behind a lemma begins the next one, or the certificate's own lines
 never_empty : (ss : List LemmaProof) (c : Content) → [] ≡ flat_map lemma_items ss ++ behind c → ⊥

@@ -1,22 +1,15 @@
--- The lemmas of a front, one after the other.
-use Rattle.std.proofs.Common.{◌≡◌, ◌⊎◌, inl, inr, ℕ, zero, suc, ◌+◌, ◌<◌, ◌≤◌, arith, true, List, [], ◌∷◌, ◌++◌, length, get_or, map, take, drop, sym, ap, subst, ◌∙◌, append_assoc, append-nil}
-use Rattle.std.specs.List.{flat_map, sum_by}
+-- The items of the lemmas of a front, one after the other.
+use Rattle.std.proofs.Common.{◌≡◌, ◌⊎◌, inl, inr, ℕ, ◌+◌, ◌<◌, ◌≤◌, arith, true, List, [], ◌∷◌, ◌++◌, length, get_or, map, drop, ap, ◌∙◌, append_assoc}
+use Rattle.std.specs.List.{flat_map}
 use Rattle.std.proofs.lemmas.Bool.{cases_lt}
 use Rattle.std.proofs.lemmas.List.{drop_all, drop_more, get_or_default}
-use Rattle.std.proofs.lemmas.List.Sums.{sum_by-cons}
-use Rattle.pesp_problem.specs.Arcs.{Net}
 use Rattle.pesp_truth.specs.Certificates.{Content, Front as FrontOf}
 use Rattle.pesp_cert_lines.specs.declared.item.Item.{Item}
 use Rattle.pesp_cert_lines.specs.declared.item.Item.TheVariants.{Scale, Walk, Lemma, Least, Version, Cycle}
 use Rattle.pesp_cert.specs.Texts.{tree_item, lemma_items}
-use Rattle.pesp_judges.specs.declared.refusal.Refusal.{Refusal}
-use Rattle.pesp_truth.specs.Lemmas.{Lemma as Fact}
-use Rattle.pesp_truth.specs.Shown.{LemmaProof, lemmas_of, lemma_lines, IsShownLemma, AreShownLemmas}
-use Rattle.pesp_judges.specs.Faults.{IsLemmaFault, IsLemmasFault}
+use Rattle.pesp_truth.specs.Shown.{LemmaProof}
 use Rattle.pesp_check.specs.Items.{ends_lemma}
 use Rattle.pesp_check.specs.Judging.{behind, lemmas_from, lemma_walks_from}
-
--- ---- the next one
 
 -- the next lemma is at place j, and its rows come
 pub record IsNextLemma (xs : List LemmaProof) (ys : List Item) (j : ℕ) (item : Item) (rest : List Item) (s : LemmaProof) : Type 0 where
@@ -62,34 +55,3 @@ lemmas_begin f c j item rest e = elim (next_lemma f.lemmas (behind c) j item res
   | inl n ↦ ap ends_lemma n.1.item_is
   | inr n ↦ let is : item ≡ Version c.version = (let l = n.1 in cc) in ap ends_lemma is
 ]
-
--- ---- those that are shown
-
-pub shown_more : (n : Net) (earlier : List Fact) (xs : List LemmaProof) (s : LemmaProof) → AreShownLemmas n earlier xs
-    → IsShownLemma n (earlier ++ lemmas_of xs) s → AreShownLemmas n earlier (xs ++ s ∷ [])
-shown_more n earlier [] s h one = let P : List Fact → Type 0 = λ fs. IsShownLemma n fs s in (subst P (append-nil earlier) one, tt)
-shown_more n earlier (x ∷ xs) s h one =
-    let P : List Fact → Type 0 = λ fs. IsShownLemma n fs s in
-    (h.0, shown_more n (earlier ++ x.fact ∷ []) xs s h.1 (subst P (sym (append_assoc earlier (x.fact ∷ []) (lemmas_of xs))) one))
-
--- the fault of one is that of all, where those before it are shown
-pub fault_among : (n : Net) (earlier : List Fact) (xs : List LemmaProof) (j at : ℕ) (s : LemmaProof) (refusal : Refusal) → j < length xs
-    → s ≡ get_or xs j s → AreShownLemmas n earlier (take j xs)
-    → IsLemmaFault n (earlier ++ lemmas_of (take j xs)) s (at + sum_by lemma_lines (take j xs)) refusal
-    → IsLemmasFault n earlier xs at refusal
-fault_among n earlier [] j at s refusal l is h f = absurd (omega arith)
-fault_among n earlier (x ∷ xs) zero at s refusal l is h f =
-    let E : List Fact → Type 0 = λ fs. IsLemmaFault n fs s at refusal in
-    let N : ℕ → Type 0 = λ i. IsLemmaFault n (earlier ++ []) s i refusal in
-    let S : LemmaProof → Type 0 = λ y. IsLemmaFault n earlier y at refusal in
-    inl (subst S is (subst E (append-nil earlier) (subst N (omega arith) f)))
-fault_among n earlier (x ∷ xs) (suc j) at s refusal l is h f =
-    let E : List Fact → Type 0 = λ fs. IsLemmaFault n fs s (at + sum_by lemma_lines (take (suc j) (x ∷ xs))) refusal in
-    let N : ℕ → Type 0 = λ i. IsLemmaFault n ((earlier ++ x.fact ∷ []) ++ lemmas_of (take j xs)) s i refusal in
-    let lines : at + sum_by lemma_lines (take (suc j) (x ∷ xs)) ≡ at + lemma_lines x + sum_by lemma_lines (take j xs) =
-    (let e = sum_by-cons lemma_lines x (take j xs) in omega (arith, e)) in
-    inr (
-      h.0,
-      fault_among n (earlier ++ x.fact ∷ []) xs j (at + lemma_lines x) s refusal (omega arith) is h.1
-          (subst N lines (subst E (sym (append_assoc earlier (x.fact ∷ []) (lemmas_of (take j xs)))) f)),
-    )

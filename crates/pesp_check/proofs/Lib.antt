@@ -1,18 +1,13 @@
-pub mod Limits
+pub mod ReadingLemmas
+pub mod Causes
+mod Printed
 pub mod Lists
 pub mod Fronts
 pub mod Cycles
 pub mod Lines
 pub mod Items
 pub mod Texts
-pub mod Inner
-pub mod Shown
 pub mod Lemmas
 pub mod LemmaItems
 pub mod LemmaSteps
 pub mod Passed
-pub mod Refusing
-pub mod LemmaCheck
-pub mod Valid
-pub mod OwnWeights
-pub mod Claims

@@ -26,8 +26,8 @@ use Rattle.pesp_problem.specs.Nets.{AreNets}
 use Rattle.pesp_judges.specs.Pending.{Standing}
 use Rattle.pesp_judges.specs.Faults.{IsMarkFault, IsMarksFault, IsFirstFault, own_line}
 use Rattle.pesp_judges.specs.Lines.{after, IsLineVerdict}
-use Rattle.pesp_check.specs.Costs.{facts_said}
-use Rattle.pesp_check.specs.Rooms.{claim_from}
+use Rattle.pesp_whole_check.specs.Costs.{facts_said}
+use Rattle.pesp_whole_check.specs.Rooms.{claim_from}
 use Rattle.pesp_check.specs.Items.{says_no_answer, is_line, begins_tree}
 use Rattle.pesp_check.specs.declared.stage.Stage.{Stage}
 use Rattle.pesp_check.specs.declared.stage.Stage.TheVariants as stages
@@ -35,11 +35,11 @@ use Rattle.pesp_check.specs.Judging.{Kept, MarksSaid, marks_said, is_before_tree
 use Rattle.pesp_judges.proofs.Closing.{all_walks}
 use Rattle.pesp_judges.proofs.Judged.{judged_none, open_there, whole_more, judged_more, fault_here, judged_all}
 use Rattle.pesp_check.proofs.Lists.{IsNext, next_of, line_not_end, same_line, tree_ended, cycles_ended}
-use Rattle.pesp_check.proofs.Limits.{marks_keep}
+use Rattle.pesp_whole_check.proofs.Limits.{marks_keep}
 use Rattle.pesp_check.proofs.Passed.{passed, all_tree, line_no, answered}
-use Rattle.pesp_check.proofs.Inner.{marks_in, in_marks, in_front, fault_in, claim_is}
-use Rattle.pesp_check.proofs.Claims.{least_few}
-use Rattle.pesp_check.proofs.Refusing.{own_adds, marks_refused as front_refused, tree_refused, valid_there}
+use Rattle.pesp_whole_check.proofs.Inner.{marks_in, in_marks, in_front, fault_in, claim_is}
+use Rattle.pesp_whole_check.proofs.Claims.{least_few}
+use Rattle.pesp_whole_check.proofs.Refusing.{own_adds, marks_refused as front_refused, tree_refused, valid_there}
 use Rattle.pesp_check.proofs.LemmaItems.{no_other}
 use Rattle.pesp_check.proofs.LemmaSteps.{part_begins}
 use Rattle.pesp_check.proofs.Fronts.{front_done, shown_of}

@@ -1,7 +1,5 @@
 -- A text that is judged while its items come.
-use Rattle.std.proofs.Common.{◌≡◌, ◌⊎◌, inl, inr, ℕ, ◌+◌, ◌≤◌, arith, true, List, [], ◌∷◌, ◌++◌, length, map, take, drop, refl, sym, ap, subst, ◌∙◌, append_assoc, append-nil, Option, Some, None, Ok, Err}
-use Rattle.std.specs.Prelude.{ℤ}
-use Rattle.std.proofs.lemmas.List.{drop_all, take_all}
+use Rattle.std.proofs.Common.{◌≡◌, ◌⊎◌, inl, inr, ℕ, ◌+◌, ◌≤◌, true, List, [], ◌∷◌, ◌++◌, map, refl, sym, ap, subst, ◌∙◌, append_assoc, Option, Some, None, Ok, Err}
 use Rattle.pesp_stream.specs.Counts.{Calls, Worked, Failed}
 use Rattle.pesp_problem.specs.Timetables.{Pesp}
 use Rattle.pesp_truth.specs.declared.answer.Answer.{Answer}
@@ -25,7 +23,7 @@ use Rattle.pesp_judges.specs.declared.refusal.Verdict.{Verdict}
 use Rattle.pesp_judges.specs.Faults.{IsVerdict}
 use Rattle.pesp_judges.proofs.Faults.{accepts_valid}
 use Rattle.pesp_check.specs.declared.stage.Stage.{Stage}
-use Rattle.pesp_check.specs.declared.fault.CheckFault.TheVariants.{Read}
+use Rattle.pesp_check.specs.declared.check_fault.CheckFault.TheVariants.{Read}
 use Rattle.pesp_check.specs.CheckFaults.{fault_of}
 use Rattle.pesp_check.specs.Texts.{ChecksText, Faults}
 use Rattle.pesp_check.specs.Judging.{Kept, JudgedAt, items_left}
@@ -138,9 +136,3 @@ blamed_since items.Read first old new most limit same is (inr (failed, many)) = 
 pub not_blamed : (f : ItemFault) (old new : Calls) (most : ℕ) → Blamed f old most new → (fault_of f ≡ Read → ⊥) → Worked old most new
 not_blamed (items.Text r) old new most worked other = worked
 not_blamed items.Read old new most failed other = absurd (other refl)
-
--- a list that is written over one of its length
-pub writes_all : (len : ℕ) (xs ys : List ℤ) → length xs ≡ length ys → len ≡ length ys → take len (xs ++ drop (length xs) ys) ≡ xs
-writes_all len xs ys same is =
-    ap (λ zs. take len (xs ++ zs)) (drop_all (length xs) ys (omega (arith, same))) ∙ ap (take len) (append-nil xs)
-    ∙ take_all len xs (omega (arith, same, is))

@@ -13,7 +13,7 @@ use Rattle.pesp_truth.specs.Trees.{are_trees, line_of}
 use Rattle.pesp_truth.specs.Shown.{LemmaProof, lemmas_of, lemma_lines, AreShownLemmas}
 use Rattle.pesp_truth.specs.Certificates.{Front as FrontOf, claim_of, Content, least_of, shown_labels, shown_times, ShowsAnswer}
 use Rattle.pesp_judges.specs.Lines.{AreJudged}
-use Rattle.pesp_judges.specs.Faults.{IsFirstFault, IsAnswerFault, own_line}
+use Rattle.pesp_judges.specs.Faults.{IsFirstFault, own_line}
 use Rattle.pesp_judges.specs.Showing.{KeptLemma, HeadShown, CyclesShown, ShownTo}
 use Rattle.pesp_truth.specs.declared.answer.Answer.{Answer}
 use Rattle.pesp_cert_lines.specs.declared.item.Item.{Item}
@@ -21,10 +21,9 @@ use Rattle.pesp_cert_lines.specs.declared.item.Item.TheVariants.{Front, Scale, W
 use Rattle.pesp_cert.specs.Texts.{time_item, tree_item, lemma_items, front_items}
 use Rattle.pesp_problem.specs.declared.nets.NetCount.{NetCount}
 use Rattle.pesp_judges.specs.declared.refusal.Refusal.{Refusal}
-use Rattle.pesp_judges.specs.declared.refusal.Refusal.TheVariants.{OtherPeriod}
 use Rattle.pesp_judges.specs.Pending.{Standing}
 use Rattle.pesp_problem.specs.Nets.{AreNets}
-use Rattle.pesp_check.specs.Costs.{facts_said}
+use Rattle.pesp_whole_check.specs.Costs.{facts_said}
 use Rattle.pesp_check.specs.Items.{says_no_answer}
 use Rattle.pesp_check.specs.declared.stage.Stage.{Stage}
 use Rattle.pesp_check.specs.declared.stage.Stage.TheVariants as stages
@@ -158,11 +157,6 @@ LemmaTo p earlier s at kept line rest more =
     ⊎ ((k : ℕ) × LemmaTreeTo p earlier s at kept line rest more k)
 
 -- ---- what they say
-
--- what is wrong with the period, or with the answer and the times
-abbrev pub IsHeadFault : Pesp → ℕ → Answer → List ℤ → List ℕ → Refusal → Type 0
-IsHeadFault p period answer labels times refusal =
-    ((refusal ≡ OtherPeriod) × (period ≡ p.period → ⊥)) ⊎ ((period ≡ p.period) × IsAnswerFault p answer labels times refusal)
 
 -- the scale of a front and k of its marked walks came
 pub record WalksTo (f : FrontOf) (c : Content) (rest : List Item) (kept : Kept) (k : ℕ) : Type 0 where

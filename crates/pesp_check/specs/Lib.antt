@@ -1,9 +1,11 @@
+pub mod Devices
+pub mod Verdicts
+pub mod Checking
+pub mod FaultLines
+pub mod Lines
 pub mod Items
 pub mod CheckFaults
 pub mod Texts
 pub mod Judging
 pub mod Views
 pub mod Said
-pub mod Inner
-pub mod Costs
-pub mod Rooms

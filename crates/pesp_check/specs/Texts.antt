@@ -13,8 +13,8 @@ use Rattle.pesp_cert_items.specs.Texts.{RefusesText}
 use Rattle.pesp_judges.specs.declared.refusal.Verdict.{Verdict}
 use Rattle.pesp_judges.specs.declared.refusal.Verdict.TheVariants.{Accepted}
 use Rattle.pesp_judges.specs.Faults.{IsVerdict}
-use Rattle.pesp_check.specs.declared.fault.CheckFault.{CheckFault}
-use Rattle.pesp_check.specs.declared.fault.CheckFault.TheVariants.{Text, Read, Memory}
+use Rattle.pesp_check.specs.declared.check_fault.CheckFault.{CheckFault}
+use Rattle.pesp_check.specs.declared.check_fault.CheckFault.TheVariants.{Text, Read, Memory}
 
 -- the bytes that were read are a certificate's text, with a front or without where these versions are taken, the answer is its
 -- answer, and the verdict is the checker's: accepted is exactly what is valid, and its answer is true then

@@ -12,18 +12,18 @@ ghost use Rattle.pesp_cert_items.specs.Lent.{item_said, listed, pairs_left_in, r
 ghost use Rattle.pesp_problem.specs.Nets.{AreZeros, AreSmallCounts};
 ghost use Rattle.pesp_truth.specs.Limits.{weights_keep_limits};
 ghost use Rattle.pesp_leaves.specs.Taken.{HaveRows};
-ghost use Rattle.pesp_check.specs.Rooms.{FitsRoom};
+ghost use Rattle.pesp_whole_check.specs.Inner.{IsHeadFault};
+ghost use Rattle.pesp_whole_check.specs.Rooms.{FitsRoom};
 ghost use Rattle.pesp_judges.specs.SaidLines.{KeepsSaidLimits};
 ghost use Rattle.pesp_judges.specs.Faults.{IsVerdict};
 ghost use Rattle.pesp_check.specs.Said.{pairs_of, tree_line};
 ghost use Rattle.pesp_check.specs.Items.{KeepsItemLimits, begins_later, begins_tree, ends_lemma, is_mark};
 ghost use Rattle.pesp_check.specs.declared.stage.Stage.TheVariants as stages;
-ghost use Rattle.pesp_check.specs.Judging.{JudgedAt, items_left, IsHeadFault, is_front, is_before_tree};
+ghost use Rattle.pesp_check.specs.Judging.{JudgedAt, items_left, is_front, is_before_tree};
 
 use crate::elements::{PairsLeft, RowsLeft};
-use crate::front_walks::{MarksDraft, front_of, note_line, walks_fault};
 use crate::lemma_lines::{add_fact, ends_lemma, fact_in, show_line};
-use crate::room::{Room, claim_over, room_for};
+use crate::marks_draft::{MarksDraft, front_of, note_line};
 use crate::said_line::said_line;
 use crate::stage::Stage;
 use pesp_cert_items::{Item, LinePairs, SignedRows, TextLine};
@@ -33,6 +33,7 @@ use pesp_judges::{
 };
 use pesp_problem::{Instance, MOST_CYCLES, Memory};
 use pesp_truth::{Answer, Lemma, Marks};
+use pesp_whole_check::{Room, claim_over, room_for, walks_fault};
 use std::alloc::{AllocError, Global};
 use std::mem::replace;
 
@@ -298,11 +299,8 @@ impl<'a> Judge<'a> {
             least,
         );
         let checker = Checker::new(self.instance, &self.table, claim);
-        let taken = &mut self.room.taken;
         let rates = &mut self.room.rates;
-        let found = take_line(
-            alloc, &checker, walk, said, self.line, working, taken, rates,
-        )?;
+        let found = take_line(alloc, &checker, walk, said, self.line, working, rates)?;
         if let Some(refusal) = found {
             self.stage = Stage::Refused(refusal);
             return Ok(());
@@ -449,7 +447,7 @@ impl<'a> Judge<'a> {
                 return Ok(());
             }
         };
-        self.lemma = Some(lemma);
+        drop(self.lemma.replace(lemma));
         Ok(())
     }
 
@@ -481,7 +479,7 @@ impl<'a> Judge<'a> {
         };
         let found = show_line(alloc, lemma, &self.facts, line, self.line, working)?;
         if let Some(refusal) = found {
-            self.lemma = None;
+            drop(self.lemma.take());
             self.stage = Stage::Refused(refusal);
             return Ok(());
         }

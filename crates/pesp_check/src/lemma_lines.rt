@@ -16,7 +16,7 @@ ghost use Rattle.pesp_check.specs.Items.{KeepsItemLimits, begins_part};
 ghost use Rattle.pesp_check.specs.Judging.{LemmaTo};
 
 use crate::elements::RowsLeft;
-use crate::front_walks::walk_of;
+use crate::marks_draft::walk_of;
 use crate::said_line::said_line;
 use pesp_cert_items::{Item, LinePairs, TextLine};
 use pesp_judges::{LemmaJudge, Refusal};

@@ -3,13 +3,13 @@ use Rattle.std.specs.Prelude.{◌≡◌, ◌≢◌, ◌⊎◌, ℕ, ◌≤◌}
 use Rattle.pesp_problem.specs.declared.limits.TheConstants.{MOST_PERIOD}
 use Rattle.pesp_cert_lines.specs.declared.versions.Versions.{Versions}
 use Rattle.pesp_judges.specs.declared.refusal.Verdict.{Verdict}
-use Rattle.pesp_check_run.specs.Devices.{Device}
-use Rattle.pesp_check_run.specs.Checking.{Checks, CheckCause}
-use Rattle.pesp_check_run.specs.Verdicts.{verdict_status}
-use Rattle.pesp_check_run.specs.FaultLines.{verdict_fault_line, verdict_exit_status}
-use Rattle.pesp_check_run.specs.declared.fault.VerdictFault.{VerdictFault}
-use Rattle.pesp_check_run.specs.declared.fault.VerdictFault.TheVariants.{Memory, Write, NoFile}
-use Rattle.pesp_check_run.specs.Lines.{Gets, GetsLine}
+use Rattle.pesp_check.specs.Devices.{Device}
+use Rattle.pesp_check.specs.Checking.{Checks, CheckCause}
+use Rattle.pesp_check.specs.Verdicts.{verdict_status}
+use Rattle.pesp_check.specs.FaultLines.{verdict_fault_line, verdict_exit_status}
+use Rattle.pesp_check.specs.declared.fault.VerdictFault.{VerdictFault}
+use Rattle.pesp_check.specs.declared.fault.VerdictFault.TheVariants.{Memory, Write, NoFile}
+use Rattle.pesp_check.specs.Lines.{Gets, GetsLine}
 
 -- some text is an instance with this period, the text that was read is that of a certificate whose version is taken, and the
 -- verdict on it is written; the status is the verdict's

@@ -2,13 +2,13 @@
 
 ghost use Rattle.std.specs.Prelude.{◌≡◌, ◌≢◌, ◌<◌, ◌^◌, IfOk, IfErr};
 ghost use Rattle.pesp_stream.specs.Counts.{FewerThan};
-ghost use Rattle.pesp_check_run.specs.Devices.{over};
+ghost use Rattle.pesp_check.specs.Devices.{over};
 ghost use Rattle.pesp_checker.specs.Words.{versions_asked};
 ghost use Rattle.pesp_checker.specs.Statuses.{AnswersChecker, AnswersRequest, GivesVerdict, NoVerdictCause};
 
 use crate::request::{CheckRequest, USAGE, request_of};
 use crate::telling::told;
-use pesp_check_run::{VerdictFault, run_check_of, status_of_verdict, tell, teller_of};
+use pesp_check::{VerdictFault, run_check_of, status_of_verdict, tell, teller_of};
 use pesp_stream::{Counted, Sink, Source};
 use std::fs::File;
 use std::process::ExitCode;

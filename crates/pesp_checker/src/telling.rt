@@ -2,10 +2,10 @@
 
 ghost use Rattle.std.specs.Prelude.{◌<◌, ◌^◌};
 ghost use Rattle.pesp_stream.specs.Counts.{FewerThan};
-ghost use Rattle.pesp_check_run.specs.Devices.{over};
+ghost use Rattle.pesp_check.specs.Devices.{over};
 ghost use Rattle.pesp_checker.specs.Statuses.{TellsFault};
 
-use pesp_check_run::{VerdictFault, status_of, tell};
+use pesp_check::{VerdictFault, status_of, tell};
 use pesp_stream::{Bytes, Sink};
 use std::alloc::Global;
 

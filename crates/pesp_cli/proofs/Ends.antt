@@ -1,20 +1,22 @@
 -- How a run without a status of its own ends.
-use Rattle.std.proofs.Common.{◌≡◌, ◌⊎◌, inl, inr, ℕ, List, refl, ap, Ok, Err}
+use Rattle.std.proofs.Common.{◌≡◌, ◌⊎◌, inl, inr, ℕ, List, refl, ap, Ok, Err, Some, None}
 use Rattle.std.specs.Prelude.{Result, Option, MatchResult, OnOk, IfOk, IfErr, ⊤, ◌≢◌}
-use Rattle.pesp_check_run.specs.Devices.{Device}
+use Rattle.pesp_check.specs.Devices.{Device}
 use Rattle.pesp_runs.specs.declared.fault.Fault.{Fault}
 use Rattle.pesp_runs.specs.declared.fault.Fault.TheVariants.{Write}
 use Rattle.pesp_runs.specs.Bases.{ReadsSharpBase}
 use Rattle.pesp_runs.specs.Runs.{OverBase}
 use Rattle.pesp_tasks.specs.Resuming.{WritesGoneOn}
 use Rattle.pesp_tasks.proofs.Resumptions.{gone_on_weaker}
-use Rattle.pesp_check_run.specs.declared.fault.VerdictFault.{VerdictFault}
-use Rattle.pesp_check_run.specs.declared.fault.VerdictFault.TheVariants.{Write as OfWrite}
+use Rattle.pesp_judges.specs.declared.refusal.Verdict.{Verdict}
+use Rattle.pesp_check.specs.Verdicts.{verdict_status}
+use Rattle.pesp_check.specs.declared.fault.VerdictFault.{VerdictFault}
+use Rattle.pesp_check.specs.declared.fault.VerdictFault.TheVariants.{Write as OfWrite}
 use Rattle.pesp_runs.specs.FaultLines.{verdict_fault}
 use Rattle.pesp_report_run.specs.Naming.{NamesCause}
 use Rattle.pesp_request.specs.declared.request.OfWorks.{OfWorks}
 use Rattle.pesp_request.specs.declared.request.OfWorks.TheVariants.{Graft, GraftSharp}
-use Rattle.pesp_cli.specs.Stops.{OrNoNames, StopsWorks}
+use Rattle.pesp_cli.specs.Stops.{OrNoNames, OrNamesOf, StopsWorks}
 
 -- the run's clause, and the status 0
 pub finished : {A E : Type 0} (run : Result A E) (r : Result ℕ E) (P : Type 0) → OnOk run P
@@ -62,9 +64,43 @@ without_names fault C (inl h) = inl h
 without_names fault C (inr (inl h)) = inr (inl h)
 without_names fault C (inr (inr h)) = absurd h
 
+-- the same where a file with some may be named
+pub unless_named : {A : Type 0} (names : Option A) (fault : Fault) (C : Type 0) → OrNamesOf names fault ⊥ → OrNamesOf names fault C
+unless_named None fault C h = absurd h
+unless_named (Some file) fault C h = without_names fault C h
+
+-- what holds without names
+pub with_names : {A : Type 0} (names : Option A) (fault : Fault) (C : Type 0) → C → OrNamesOf names fault C
+with_names None fault C h = h
+with_names (Some file) fault C h = inr (inr h)
+
+-- ---- verdicts
+
 -- a verdict's fault that isn't told as one of writing isn't one
 pub verdict_writes : (found : VerdictFault) (A : Type 0) → (found ≢ OfWrite → A) → verdict_fault found ≢ Write → A
 verdict_writes found A f told = f (λ is. told (ap verdict_fault is))
+
+-- what is told of a run that judges a certificate
+pub verdict_told : (run : Result Verdict VerdictFault) (r : Result ℕ Fault) (P : Verdict → Type 0) → IfOk run P
+    → MatchResult run (λ verdict. r ≡ Ok (verdict_status verdict)) (λ found. r ≡ Err (verdict_fault found))
+    → IfOk r (λ status. (verdict : Verdict) × P verdict × (status ≡ verdict_status verdict))
+verdict_told (Ok verdict) r P holds is = rw is (verdict, holds, refl)
+verdict_told (Err found) r P holds is = rw is tt
+
+-- and of one that stops
+pub verdict_stopped : (run : Result Verdict VerdictFault) (r : Result ℕ Fault) (P : VerdictFault → Type 0) → IfErr run P
+    → MatchResult run (λ verdict. r ≡ Ok (verdict_status verdict)) (λ found. r ≡ Err (verdict_fault found))
+    → IfErr r (λ fault. (found : VerdictFault) × (fault ≡ verdict_fault found) × P found)
+verdict_stopped (Ok verdict) r P holds is = rw is tt
+verdict_stopped (Err found) r P holds is = rw is (found, refl, holds)
+
+-- which has written nothing before, where writing isn't its fault
+pub verdict_silent : (run : Result Verdict VerdictFault) (r : Result ℕ Fault) (A : Type 0)
+    → IfErr run (λ found. found ≢ OfWrite → A)
+    → MatchResult run (λ verdict. r ≡ Ok (verdict_status verdict)) (λ found. r ≡ Err (verdict_fault found))
+    → IfErr r (λ fault. fault ≢ Write → A)
+verdict_silent (Ok verdict) r A silent is = rw is tt
+verdict_silent (Err found) r A silent is = rw is (verdict_writes found A silent)
 
 -- ---- what holds of some device
 

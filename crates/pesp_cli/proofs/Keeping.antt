@@ -4,28 +4,28 @@ use Rattle.std.specs.Prelude.{Result, Option, MatchResult, OnOk, IfOk, IfErr, �
 use Rattle.pesp_problem.specs.Timetables.{Pesp}
 use Rattle.pesp_truth.specs.declared.answer.Answer.{Answer}
 use Rattle.pesp_tasks.specs.Solving.{SolutionStops}
-use Rattle.pesp_check_run.specs.Devices.{Device}
-use Rattle.pesp_check_run.specs.Lines.{Gets}
+use Rattle.pesp_check.specs.Devices.{Device}
+use Rattle.pesp_check.specs.Lines.{Gets}
 use Rattle.pesp_runs.specs.Causes.{OutCause}
 use Rattle.pesp_runs.specs.declared.fault.Fault.{Fault}
 use Rattle.pesp_runs.specs.declared.fault.Fault.TheVariants.{NoFile, Memory}
 use Rattle.pesp_cert.specs.Fronted.{Fronted}
 use Rattle.pesp_runs.specs.Bases.{IsSharpBase}
 use Rattle.pesp_plan.specs.Planning.{KeepsAndWrites, KeepsOn, KeepsSome, KeepsSomeOn}
-use Rattle.pesp_plan.specs.Beginning.{BeginsWith, FromStanding, FromStandingCause}
-use Rattle.pesp_cli.specs.Answers.{AnswersBegun, AnswersKept}
-use Rattle.pesp_cli.specs.Stops.{StopsBegun, StopsKept}
+use Rattle.pesp_old_times.specs.Beginning.{BeginsWith, ReadsOld, OldCause, FromStanding, FromStandingCause}
+use Rattle.pesp_cli.specs.Answers.{AnswersSearch, AnswersKept}
+use Rattle.pesp_cli.specs.Stops.{StopsSearch, StopsKept}
 
 -- a plan from old times that is kept
 answers_some : {A : Type 0} (from : Option A) (period : ℕ) (reader writer : Device) (stands : Option Answer) (status : ℕ)
-    → AnswersBegun (λ p times Gets. KeepsAndWrites p times stands Gets) from period reader writer status
-    → AnswersBegun KeepsSome from period reader writer status
+    → AnswersSearch ReadsOld (λ p times Gets. KeepsAndWrites p times stands Gets) from period reader writer status
+    → AnswersSearch ReadsOld KeepsSome from period reader writer status
 answers_some None period reader writer stands status ((p, reads, keeps), is) = ((p, reads, (stands, keeps)), is)
 answers_some (Some file) period reader writer stands status ((times, (p, reads, (list, reads_times, keeps))), is) =
     ((times, (p, reads, (list, reads_times, (stands, keeps)))), is)
 
 pub kept : {A : Type 0} (r : Result ℕ Fault) (from : Option A) (period : ℕ) (reader writer : Device) (stands : Option Answer)
-    → IfOk r (AnswersBegun (λ p times Gets. KeepsAndWrites p times stands Gets) from period reader writer)
+    → IfOk r (AnswersSearch ReadsOld (λ p times Gets. KeepsAndWrites p times stands Gets) from period reader writer)
     → IfOk r (AnswersKept from period reader writer)
 kept (Ok status) from period reader writer stands holds = inl (answers_some from period reader writer stands status holds)
 kept (Err e) from period reader writer stands holds = tt
@@ -57,15 +57,15 @@ kept_on (Err e) r from period reader base writer stands holds is = rw is tt
 -- ---- why it stops
 
 stops_some : {A : Type 0} (from : Option A) (fault : Fault) (period : ℕ) (reader writer : Device) (stands : Option Answer)
-    → StopsBegun (λ p times fault cut. SolutionStops fault p 0 ⊤) (λ p times Gets. KeepsAndWrites p times stands Gets) from fault
+    → StopsSearch ReadsOld OldCause (λ p times fault cut. SolutionStops fault p 0 ⊤) (λ p times Gets. KeepsAndWrites p times stands Gets) from fault
     period reader writer
-    → StopsBegun (λ p times fault cut. SolutionStops fault p 0 ⊤) KeepsSome from fault period reader writer
+    → StopsSearch ReadsOld OldCause (λ p times fault cut. SolutionStops fault p 0 ⊤) KeepsSome from fault period reader writer
 stops_some None fault period reader writer stands h = h
 stops_some (Some file) fault period reader writer stands h = h
 
 pub stopped_kept : {A : Type 0} (r : Result ℕ Fault) (from : Option A) (period : ℕ) (reader writer : Device)
     (stands : Option Answer)
-    → IfErr r (λ fault. StopsBegun (λ p times fault cut. SolutionStops fault p 0 ⊤)
+    → IfErr r (λ fault. StopsSearch ReadsOld OldCause (λ p times fault cut. SolutionStops fault p 0 ⊤)
     (λ p times Gets. KeepsAndWrites p times stands Gets) from fault period reader writer)
     → IfErr r (λ fault. StopsKept from fault period reader writer)
 stopped_kept (Ok status) from period reader writer stands holds = tt
@@ -83,7 +83,7 @@ stopped_kept_on (Err fault) r from period reader base writer holds is = rw is (i
 
 -- memory may always be lacking
 memory_stops : {A : Type 0} (from : Option A) (period : ℕ) (reader writer : Device)
-    → StopsBegun (λ p times fault cut. SolutionStops fault p 0 ⊤) KeepsSome from Memory period reader writer
+    → StopsSearch ReadsOld OldCause (λ p times fault cut. SolutionStops fault p 0 ⊤) KeepsSome from Memory period reader writer
 memory_stops None period reader writer = inl tt
 memory_stops (Some file) period reader writer = inr (reader, inl (tt, tt))
 

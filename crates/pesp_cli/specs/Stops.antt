@@ -6,25 +6,25 @@ use Rattle.pesp_timetable.specs.Texts.{IsTimetableText}
 use Rattle.pesp_problem.specs.Timetables.{Pesp}
 use Rattle.pesp_truth.specs.Certificates.{Content}
 use Rattle.pesp_cert.specs.Fronted.{Fronted}
-use Rattle.pesp_check_run.specs.Devices.{Device}
+use Rattle.pesp_check.specs.Devices.{Device}
 use Rattle.pesp_cert_lines.specs.declared.versions.Versions.TheVariants.{Plain, All}
-use Rattle.pesp_check_run.specs.Checking.{CheckCause}
-use Rattle.pesp_check_run.specs.declared.fault.VerdictFault.{VerdictFault}
+use Rattle.pesp_check.specs.Checking.{CheckCause}
+use Rattle.pesp_check.specs.declared.fault.VerdictFault.{VerdictFault}
 use Rattle.pesp_plan.specs.Planning.{WritesPlan, KeepsSome}
-use Rattle.pesp_plan.specs.Beginning.{FromOldCause, FromStandingCause}
-use Rattle.pesp_runs.specs.Reading.{ReadsBase}
-use Rattle.pesp_runs.specs.Causes.{BaseCause, OutCause}
+use Rattle.pesp_old_times.specs.Beginning.{ReadsOld, OldCause, FromStandingCause}
+use Rattle.pesp_runs.specs.Reading.{ReadsBase, GivesTimetable}
+use Rattle.pesp_runs.specs.Causes.{BaseCause, TimetableCause, OutCause}
 use Rattle.pesp_runs.specs.FaultLines.{verdict_fault}
 use Rattle.pesp_runs.specs.declared.fault.Fault.{Fault}
 use Rattle.pesp_runs.specs.declared.fault.Fault.TheVariants.{NoFile}
 use Rattle.pesp_runs.specs.Bases.{ReadsSharpBase, SharpBaseCause}
-use Rattle.pesp_runs.specs.Runs.{AloneCause, FromTimesCause, OverBaseCause}
+use Rattle.pesp_runs.specs.Runs.{AloneCause, OverBaseCause, OverWorksCause}
 use Rattle.pesp_tasks.specs.Gaps.{gap_line, gap_json}
 use Rattle.pesp_tasks.specs.Solving.{WritesSolution, SolutionStops}
 use Rattle.pesp_tasks.specs.Resuming.{WritesGoneOn}
 use Rattle.pesp_tasks.specs.Outside.{WritesJobs, WritesWorks, JobCause, GraftCause}
 use Rattle.pesp_tasks.specs.SharpSolving.{WritesSharpSolution, WritesSharpResumed}
-use Rattle.pesp_tasks.specs.SharpOutside.{WritesSharpJobs, WritesSharpWork, SharpJobCause, GraftSharpCause}
+use Rattle.pesp_tasks.specs.SharpOutside.{WritesSharpJobs, WritesSharpWork, SharpJobCause, WritesSharpGraft}
 use Rattle.pesp_report_run.specs.Naming.{NamesCause}
 use Rattle.pesp_report_run.specs.Reporting.{SheetCause}
 use Rattle.pesp_report_run.specs.Violating.{ViolationsCause}
@@ -52,12 +52,18 @@ OrNoFile fault Cause = (fault ≡ NoFile) ⊎ Cause
 abbrev pub OrNoNames : Fault → Type 0 → Type 0
 OrNoNames fault Cause = OrNoFile fault (((names : Device) × NamesCause fault names) ⊎ Cause)
 
--- a search that writes this and stops for that, from the times in a file where one is named
-abbrev pub StopsSearch : {A : Type 0} → (Pesp → List ℕ → Fault → Type 0 → Type 0) → (Pesp → List ℕ → (List ℕ → Type 0) → Type 0)
+-- this is so, or names can't be read where a file with some is named
+abbrev pub OrNamesOf : {A : Type 0} → Option A → Fault → Type 0 → Type 0
+OrNamesOf None fault Cause = Cause
+OrNamesOf (Some file) fault Cause = OrNoNames fault Cause
+
+-- a search that writes this and stops for that, from times that are read and refused so in a file where one is named
+abbrev pub StopsSearch : {A : Type 0} → (Option (List ℕ) → Option (List ℕ) → Pesp → List ℕ → Type 0) → (Fault → Device → Pesp → Type 0)
+    → (Pesp → List ℕ → Fault → Type 0 → Type 0) → (Pesp → List ℕ → (List ℕ → Type 0) → Type 0)
     → Option A → Fault → ℕ → Device → Device → Type 0
-StopsSearch StopsProgram Writes None fault period reader writer = AloneCause StopsProgram Writes fault reader writer period
-StopsSearch StopsProgram Writes (Some file) fault period reader writer =
-    OrNoFile fault ((times : Device) × FromTimesCause StopsProgram Writes fault reader times writer period ⊤)
+StopsSearch Reads Refused StopsProgram Writes None fault period reader writer = AloneCause StopsProgram Writes fault reader writer period
+StopsSearch Reads Refused StopsProgram Writes (Some file) fault period reader writer =
+    OrNoFile fault ((times : Device) × OverBaseCause Reads Refused fault reader times writer period ⊤ StopsProgram Writes)
 
 -- a task with a certificate without a front, which writes this; `uncalled` says that its reader was not called
 abbrev pub StopsPlain : Fault → ℕ → Device → Device → Device → Type 0 → (Pesp → Content → (List ℕ → Type 0) → Type 0) → Type 0
@@ -76,33 +82,26 @@ StopsConflict None fault steps period reader writer = ConflictCause fault reader
 StopsConflict (Some file) fault steps period reader writer =
     OrNoNames fault ((name : ℤ → List ℕ) × ConflictCause fault reader writer period steps (Some name))
 
--- a plan that writes this and stops for that, from old times in a file where one is named
-abbrev pub StopsBegun : {A : Type 0} → (Pesp → List ℕ → Fault → Type 0 → Type 0) → (Pesp → List ℕ → (List ℕ → Type 0) → Type 0)
-    → Option A → Fault → ℕ → Device → Device → Type 0
-StopsBegun StopsProgram Writes None fault period reader writer = AloneCause StopsProgram Writes fault reader writer period
-StopsBegun StopsProgram Writes (Some file) fault period reader writer =
-    OrNoFile fault ((times : Device) × FromOldCause StopsProgram Writes fault reader times writer period ⊤)
-
 -- a plan that is kept in a file, which can't be had, or can't be written
 abbrev pub StopsKept : {A : Type 0} → Option A → Fault → ℕ → Device → Device → Type 0
 StopsKept from fault period reader writer =
-    OrNoFile fault (StopsBegun (λ p times fault cut. SolutionStops fault p 0 ⊤) KeepsSome from fault period reader writer
+    OrNoFile fault (StopsSearch ReadsOld OldCause (λ p times fault cut. SolutionStops fault p 0 ⊤) KeepsSome from fault period reader writer
     ⊎ ((base : Device) × FromStandingCause (λ p base. OutCause fault ⊤) (λ p times. SolutionStops fault p 0 ⊤)
     fault reader base period))
 
 -- a plan
 abbrev pub StopsPlan : {A B : Type 0} → Option A → Option B → Fault → ℕ → Device → Device → Type 0
 StopsPlan None from fault period reader writer =
-    StopsBegun (λ p times fault cut. SolutionStops fault p 0 cut) WritesPlan from fault period reader writer
+    StopsSearch ReadsOld OldCause (λ p times fault cut. SolutionStops fault p 0 cut) WritesPlan from fault period reader writer
 StopsPlan (Some file) from fault period reader writer = StopsKept from fault period reader writer
 
 -- what is asked of an instance
 abbrev pub StopsInstance : OfInstance → Fault → ℕ → Device → Device → Type 0
 StopsInstance (Solve steps from progress) fault period reader writer =
-    StopsSearch (λ p times fault cut. SolutionStops fault p steps cut) (λ p times Gets. WritesSolution p times steps Gets)
+    StopsSearch GivesTimetable TimetableCause (λ p times fault cut. SolutionStops fault p steps cut) (λ p times Gets. WritesSolution p times steps Gets)
     from fault period reader writer
 StopsInstance (SolveSharp steps from progress) fault period reader writer =
-    StopsSearch (λ p times fault cut. SolutionStops fault p 0 cut) (λ p times Gets. WritesSharpSolution p times steps Gets)
+    StopsSearch GivesTimetable TimetableCause (λ p times fault cut. SolutionStops fault p 0 cut) (λ p times Gets. WritesSharpSolution p times steps Gets)
     from fault period reader writer
 StopsInstance (Plan asked) fault period reader writer = StopsPlan asked.output asked.from fault period reader writer
 StopsInstance (Conflict steps names) fault period reader writer = StopsConflict names fault steps period reader writer
@@ -137,6 +136,13 @@ StopsLeaves (WorkSharp steps until jobs) fault period instance reader writer unc
     (λ p base fault cut. SharpJobCause fault p base jobs.items ⊎ OutCause fault cut)
     (λ p base Gets. WritesSharpWork p base jobs.items steps until Gets)
 
+-- a report, with what events are called where a file is named
+abbrev pub StopsReport : {A : Type 0} → Option A → Fault → ℕ → Device → Device → Device → Type 0 → Type 0
+StopsReport None fault period instance reader writer uncalled = SheetCause fault instance reader writer period uncalled IsReport
+StopsReport (Some file) fault period instance reader writer uncalled =
+    OrNoNames fault ((name : ℤ → List ℕ)
+    × SheetCause fault instance reader writer period uncalled (λ p times text. IsNamedReport p times name text))
+
 -- a list of violated activities, with what events are called where a file is named
 abbrev pub StopsViolations : {A : Type 0} → Option A → Fault → ℕ → Device → Device → Device → Type 0 → Type 0
 StopsViolations None fault period instance reader writer uncalled =
@@ -144,42 +150,28 @@ StopsViolations None fault period instance reader writer uncalled =
 StopsViolations (Some file) fault period instance reader writer uncalled =
     OrNoNames fault ((name : ℤ → List ℕ) × ViolationsCause fault instance reader writer period uncalled (Some name))
 
--- fixed events
-abbrev pub StopsFix : {A : Type 0} → Option A → Fault → ℕ → Device → Device → Device → Type 0 → Type 0
-StopsFix None fault period instance reader writer uncalled = FixCause fault instance reader writer period uncalled
-StopsFix (Some file) fault period instance reader writer uncalled =
-    OrNoNames fault (FixCause fault instance reader writer period uncalled)
-
 -- what is asked of times
 abbrev pub StopsTimes : OfTimes → Fault → ℕ → Device → Device → Device → Type 0 → Type 0
-StopsTimes (Report None) fault period instance reader writer uncalled =
-    SheetCause fault instance reader writer period uncalled IsReport
-StopsTimes (Report (Some names)) fault period instance reader writer uncalled =
-    OrNoNames fault ((name : ℤ → List ℕ)
-    × SheetCause fault instance reader writer period uncalled (λ p times text. IsNamedReport p times name text))
+StopsTimes (Report names) fault period instance reader writer uncalled = StopsReport names fault period instance reader writer uncalled
 StopsTimes (Violations names) fault period instance reader writer uncalled = StopsViolations names fault period instance reader writer uncalled
-StopsTimes (Picture rows None) fault period instance reader writer uncalled =
-    SheetCause fault instance reader writer period uncalled (λ p times text. ⊤)
-StopsTimes (Picture rows (Some names)) fault period instance reader writer uncalled =
-    OrNoNames fault (SheetCause fault instance reader writer period uncalled (λ p times text. ⊤))
+StopsTimes (Picture rows names) fault period instance reader writer uncalled =
+    OrNamesOf names fault (SheetCause fault instance reader writer period uncalled (λ p times text. ⊤))
 StopsTimes (Diagrams names along) fault period instance reader writer uncalled =
     OrNoNames fault (SheetCause fault instance reader writer period uncalled (λ p times text. ⊤))
-StopsTimes (Timetable None json) fault period instance reader writer uncalled =
-    SheetCause fault instance reader writer period uncalled (IsTimetableText json)
-StopsTimes (Timetable (Some names) json) fault period instance reader writer uncalled =
-    OrNoNames fault (SheetCause fault instance reader writer period uncalled (IsTimetableText json))
-StopsTimes (Fix names events lines) fault period instance reader writer uncalled = StopsFix names fault period instance reader writer uncalled
-StopsTimes (Page None) fault period instance reader writer uncalled =
-    SheetCause fault instance reader writer period uncalled (λ p times text. ⊤)
-StopsTimes (Page (Some names)) fault period instance reader writer uncalled =
-    OrNoNames fault (SheetCause fault instance reader writer period uncalled (λ p times text. ⊤))
+StopsTimes (Timetable names json) fault period instance reader writer uncalled =
+    OrNamesOf names fault (SheetCause fault instance reader writer period uncalled (IsTimetableText json))
+StopsTimes (Fix names events lines) fault period instance reader writer uncalled =
+    OrNamesOf names fault (FixCause fault instance reader writer period uncalled)
+StopsTimes (Page names) fault period instance reader writer uncalled =
+    OrNamesOf names fault (SheetCause fault instance reader writer period uncalled (λ p times text. ⊤))
 
 -- what is asked of works; `base_uncalled` says that the base's reader was not called
 abbrev pub StopsWorks : OfWorks → Fault → ℕ → Device → Device → Device → Device → Device → Type 0 → Type 0 → Type 0
 StopsWorks Graft fault period instance base reader writer teller base_uncalled uncalled =
     GraftCause fault instance base reader writer teller period base_uncalled uncalled
 StopsWorks GraftSharp fault period instance base reader writer teller base_uncalled uncalled =
-    GraftSharpCause fault instance base reader writer teller period base_uncalled uncalled
+    OverWorksCause ReadsSharpBase SharpBaseCause fault instance base reader writer teller period base_uncalled uncalled
+    (λ p base works fault cut. OutCause fault cut) (λ p base works Gets Tells. WritesSharpGraft p base works Gets Tells)
 
 -- what is asked, from the reader of standard input; `uncalled` says that it was not called
 abbrev pub StopsAsked : Asked → Fault → ℕ → Device → Device → Device → Type 0 → Type 0

@@ -4,33 +4,38 @@ ghost use Rattle.std.specs.Prelude.{◌≡◌, ◌≢◌, ◌<◌, ◌≤◌, �
 ghost use Rattle.std.specs.Io.KnownBytes.{Appends};
 ghost use Rattle.pesp_problem.specs.declared.limits.TheConstants.{MOST_STEPS};
 ghost use Rattle.pesp_stream.specs.Counts.{FewerThan};
-ghost use Rattle.pesp_check_run.specs.Devices.{over};
+ghost use Rattle.pesp_check.specs.Devices.{over};
+ghost use Rattle.pesp_check.specs.Verdicts.{verdict_status};
+ghost use Rattle.pesp_runs.specs.FaultLines.{verdict_fault};
 ghost use Rattle.pesp_runs.specs.Runs.{OverBase, OverBaseCause};
 ghost use Rattle.pesp_request.specs.Requests.{InstanceWithin, CertificateWithin, LeavesWithin};
-ghost use Rattle.pesp_cli.specs.Answers.{AnswersConflict, AnswersSearch, AnswersInstance, AnswersCertificate, AnswersLeaves, AnswersTimes, AnswersViolations, AnswersFix, AnswersWorks, violations_status};
-ghost use Rattle.pesp_cli.specs.Stops.{OrNoNames, StopsConflict, StopsSearch, StopsInstance, StopsCertificate, StopsLeaves, StopsTimes, StopsViolations, StopsFix, StopsWorks};
+ghost use Rattle.pesp_cli.specs.Answers.{AnswersConflict, AnswersSearch, AnswersInstance, AnswersCertificate, AnswersLeaves, AnswersTimes, AnswersReport, AnswersViolations, AnswersFix, AnswersWorks, violations_status};
+ghost use Rattle.pesp_report_run.specs.Fixing.{FixCause};
+ghost use Rattle.pesp_cli.specs.Stops.{OrNoNames, OrNamesOf, StopsConflict, StopsSearch, StopsInstance, StopsCertificate, StopsLeaves, StopsTimes, StopsReport, StopsViolations, StopsWorks};
 
 use crate::headed::Headed;
 use crate::input::{Beginning, warn_of_period};
 use crate::plans::of_plan;
 use crate::telling::{tell_sums, told_conflict, told_fix};
-use pesp_check_run::{run_check, run_check_sharp, status_of_verdict};
-use pesp_plan::Lockable;
-use pesp_progress::{Teller, Watch};
+use pesp_check::{VerdictFault, run_check, run_check_sharp, status_of_verdict};
+use pesp_judges::Verdict;
+use pesp_plan::{Lockable, Teller, Watch};
 use pesp_report::Names;
 use pesp_report_run::{
-    Diagrams, HtmlPage, NamedReport, Picture, Report, Timetable, read_whole_names, run_conflict,
-    run_fix, run_sheet, run_violations, status_of_told,
+    Diagrams, HtmlPage, NamedReport, Picture, Report, Timetable, Wanted, read_whole_names,
+    run_conflict, run_fix, run_sheet, run_violations, status_of_told,
 };
 use pesp_request::{OfCertificate, OfInstance, OfLeaves, OfTimes, OfWorks};
-use pesp_runs::{Fault, OnBase, Search, run_alone, run_from_times, run_on_base};
+use pesp_runs::{
+    Fault, FromTimetable, OnBase, Search, Start, run_alone, run_from_times, run_on_base,
+    run_on_works,
+};
 use pesp_sharp_search::Sharpener;
 use pesp_stream::{Counted, Sink, Source};
 use pesp_tasks::{
-    Gap, GapJson, Resume, ResumeSharp, Solve, SolveSharp, Split, SplitSharp, WorkSharp, WorkTask,
-    run_graft, run_graft_sharp,
+    Gap, GapJson, GraftSharp, Resume, ResumeSharp, Solve, SolveSharp, Split, SplitSharp, WorkSharp,
+    WorkTask, run_graft,
 };
-use pesp_timetable::Wanted;
 use std::alloc::Global;
 use std::fs::File;
 use std::rt::{Clock, Files};
@@ -45,26 +50,37 @@ pub(crate) fn done(run: Result<(), Fault>) -> Result<u8, Fault>
     }
 }
 
+/// The status of a run that judges a certificate: that of its verdict.
+fn judged(run: Result<Verdict, VerdictFault>) -> Result<u8, Fault>
+    ensures { MatchResult run (λ verdict. result ≡ Ok (verdict_status verdict)) (λ fault. result ≡ Err (verdict_fault fault)) }
+{
+    match run {
+        Ok(verdict) => Ok(status_of_verdict(verdict)),
+        Err(found) => Err(Fault::from(found)),
+    }
+}
+
 /// Searches for the instance that the reader gives, from the times in a file where one is named.
 #[tactic(auto, using(crate::proofs::Ends::finished))]
-pub(crate) fn search<R: AllocGlobal + Eprint + Files, I: Source, W: Sink, S: Search>(
+pub(crate) fn search<R: AllocGlobal + Eprint + Files, I: Source, W: Sink, S: Search, N: Start>(
     rt: &R,
     reader: &mut I,
     writer: &mut W,
     period: u32,
     from: Option<&str>,
     task: &mut S,
+    start: &mut N,
 ) -> Result<u8, Fault>
     requires within { S.within task.old }
     requires reads_fit { FewerThan (2 ^ 62) (I.calls reader.old) }
     requires writes_fit { FewerThan (2 ^ 62) (W.calls writer.old) }
-    ensures answered { IfOk result (AnswersSearch (S.writes task.old task.new) from.entry period
+    ensures answered { IfOk result (AnswersSearch N.reads (S.writes task.old task.new) from.entry period
         (over (I.remaining reader.old) (I.remaining reader.new)
         (I.calls reader.old) (I.calls reader.new))
         (over (W.contents writer.old) (W.contents writer.new)
         (W.calls writer.old) (W.calls writer.new))) }
-    ensures stopped { IfErr result (λ fault. StopsSearch (S.stops task.old) (S.writes task.old task.new) from.entry
-        fault period
+    ensures stopped { IfErr result (λ fault. StopsSearch N.reads N.refused (S.stops task.old) (S.writes task.old task.new)
+        from.entry fault period
         (over (I.remaining reader.old) (I.remaining reader.new)
         (I.calls reader.old) (I.calls reader.new))
         (over (W.contents writer.old) (W.contents writer.new)
@@ -76,7 +92,7 @@ pub(crate) fn search<R: AllocGlobal + Eprint + Files, I: Source, W: Sink, S: Sea
         None => done(run_alone(alloc, task, reader, writer, period)),
         Some(file) => {
             let mut times = opened_times(rt, file)?;
-            let run = run_from_times(alloc, task, reader, &mut times, writer, period);
+            let run = run_from_times(alloc, task, start, reader, &mut times, writer, period);
             warn_of_period(rt, &times.into_inner(), period);
             done(run)
         }
@@ -182,6 +198,7 @@ where
         (W.calls writer.old) (W.calls writer.new))) }
     ensures silent { IfErr result (λ fault. fault ≢ Fault.Write → writer.new ≡ writer.old) }
 {
+    let timetable = &mut FromTimetable;
     match asked {
         OfInstance::Solve {
             steps,
@@ -193,7 +210,7 @@ where
                 finder: sharpener,
                 observer: Teller::begin(rt, progress),
             };
-            let answer = search(rt, reader, writer, period, from, &mut task);
+            let answer = search(rt, reader, writer, period, from, &mut task, timetable);
             drop(task);
             answer
         }
@@ -207,7 +224,7 @@ where
                 sharpener,
                 observer: Teller::begin(rt, progress),
             };
-            let answer = search(rt, reader, writer, period, from, &mut sharp);
+            let answer = search(rt, reader, writer, period, from, &mut sharp, timetable);
             drop(sharp);
             answer
         }
@@ -291,13 +308,9 @@ pub(crate) fn of_certificate<
 {
     let alloc = rt.alloc();
     match asked {
-        OfCertificate::Check => {
-            let verdict = run_check(alloc, instance, reader, writer, period)?;
-            Ok(status_of_verdict(verdict))
-        }
+        OfCertificate::Check => judged(run_check(alloc, instance, reader, writer, period)),
         OfCertificate::CheckSharp => {
-            let judged = run_check_sharp(alloc, instance, reader, writer, period)?;
-            Ok(status_of_verdict(judged))
+            judged(run_check_sharp(alloc, instance, reader, writer, period))
         }
         OfCertificate::Gap => on_base(alloc, instance, reader, writer, period, &mut Gap),
         OfCertificate::GapJson => { on_base(alloc, instance, reader, writer, period, &mut GapJson) }
@@ -306,15 +319,12 @@ pub(crate) fn of_certificate<
             seconds,
             progress,
         } => {
-            let watcher = Watch::new(rt, progress, seconds);
             let mut task = Resume {
                 steps,
                 sharpener,
-                watcher,
+                watcher: Watch::new(rt, progress, seconds),
             };
-            let answer = on_base(alloc, instance, reader, writer, period, &mut task);
-            drop(task);
-            answer
+            on_base(alloc, instance, reader, writer, period, &mut task)
         }
         OfCertificate::ResumeSharp {
             steps,
@@ -328,9 +338,7 @@ pub(crate) fn of_certificate<
                 sharpener,
                 watcher: Watch::new(rt, progress, seconds),
             };
-            let answer = on_base(alloc, instance, reader, writer, period, &mut task);
-            drop(task);
-            answer
+            on_base(alloc, instance, reader, writer, period, &mut task)
         }
         OfCertificate::Split => on_base(alloc, instance, reader, writer, period, &mut Split),
         OfCertificate::SplitSharp => {
@@ -444,6 +452,47 @@ fn violated<R: AllocGlobal + Files, I: Source, S: Source, W: Sink>(
     }
 }
 
+/// Writes the report of the times of the reader, with the names in a file where one is named.
+#[tactic(auto, using(crate::proofs::Ends::finished))]
+fn reported<R: AllocGlobal + Files, I: Source, S: Source, W: Sink>(
+    rt: &R,
+    instance: &mut I,
+    reader: &mut S,
+    writer: &mut W,
+    period: u32,
+    names: Option<&str>,
+) -> Result<u8, Fault>
+    requires instance_fits { FewerThan (2 ^ 62) (I.calls instance.old) }
+    requires reads_fit { FewerThan (2 ^ 62) (S.calls reader.old) }
+    requires writes_fit { FewerThan (2 ^ 62) (W.calls writer.old) }
+    ensures answered { IfOk result (AnswersReport names.entry period
+        (over (I.remaining instance.old) (I.remaining instance.new)
+        (I.calls instance.old) (I.calls instance.new))
+        (over (S.remaining reader.old) (S.remaining reader.new)
+        (S.calls reader.old) (S.calls reader.new))
+        (over (W.contents writer.old) (W.contents writer.new)
+        (W.calls writer.old) (W.calls writer.new))) }
+    ensures stopped { IfErr result (λ fault. StopsReport names.entry fault period
+        (over (I.remaining instance.old) (I.remaining instance.new)
+        (I.calls instance.old) (I.calls instance.new))
+        (over (S.remaining reader.old) (S.remaining reader.new)
+        (S.calls reader.old) (S.calls reader.new))
+        (over (W.contents writer.old) (W.contents writer.new)
+        (W.calls writer.old) (W.calls writer.new))
+        (reader.new ≡ reader.old)) }
+    ensures silent { IfErr result (λ fault. fault ≢ Fault.Write → writer.new ≡ writer.old) }
+{
+    let alloc = rt.alloc();
+    match names {
+        None => done(run_sheet(alloc, &Report, instance, reader, writer, period)),
+        Some(file) => {
+            let names = names_in(rt, file)?;
+            let sheet = NamedReport(&names);
+            done(run_sheet(alloc, &sheet, instance, reader, writer, period))
+        }
+    }
+}
+
 /// Fixes what is wanted in the instance, with the names in a file where one is named; tells on standard error why that can't be had.
 fn fix<R: AllocGlobal + Eprint + Files, I: Source, S: Source, W: Sink>(
     rt: &R,
@@ -464,38 +513,30 @@ fn fix<R: AllocGlobal + Eprint + Files, I: Source, S: Source, W: Sink>(
         (S.calls reader.old) (S.calls reader.new))
         (over (W.contents writer.old) (W.contents writer.new)
         (W.calls writer.old) (W.calls writer.new))) }
-    ensures stopped { IfErr result (λ fault. StopsFix names.entry fault period
+    ensures stopped { IfErr result (λ fault. OrNamesOf names.entry fault (FixCause fault
         (over (I.remaining instance.old) (I.remaining instance.new)
         (I.calls instance.old) (I.calls instance.new))
         (over (S.remaining reader.old) (S.remaining reader.new)
         (S.calls reader.old) (S.calls reader.new))
         (over (W.contents writer.old) (W.contents writer.new)
         (W.calls writer.old) (W.calls writer.new))
-        (reader.new ≡ reader.old)) }
+        period (reader.new ≡ reader.old))) }
     ensures silent { IfErr result (λ fault. fault ≢ Fault.Write → writer.new ≡ writer.old) }
 {
     let alloc = rt.alloc();
-    match names {
-        None => {
-            let refused = run_fix(alloc, instance, reader, writer, period, None, wanted)?;
-            Ok(told_fix(rt, refused))
-        }
-        Some(file) => {
-            let names = names_in(rt, file)?;
-            let run = run_fix(
-                alloc,
-                instance,
-                reader,
-                writer,
-                period,
-                Some(&names),
-                wanted,
-            );
-            drop(names);
-            let refused = run?;
-            Ok(told_fix(rt, refused))
-        }
-    }
+    let told = names_of(rt, names)?;
+    let run = run_fix(
+        alloc,
+        instance,
+        reader,
+        writer,
+        period,
+        told.as_ref(),
+        wanted,
+    );
+    drop(told);
+    let refused = run?;
+    Ok(told_fix(rt, refused))
 }
 
 /// Does what is asked of the times that the reader gives, for the instance of the other reader.
@@ -531,56 +572,23 @@ pub(crate) fn of_times<R: AllocGlobal + Eprint + Files, I: Source, S: Source, W:
     let alloc = rt.alloc();
     match asked {
         OfTimes::Violations { names } => { violated(rt, instance, reader, writer, period, names) }
-        OfTimes::Report { names: None } => {
-            done(run_sheet(alloc, &Report, instance, reader, writer, period))
-        }
-        OfTimes::Report { names: Some(file) } => {
-            let names = names_in(rt, file)?;
-            done(run_sheet(
-                alloc,
-                &NamedReport(&names),
-                instance,
-                reader,
-                writer,
-                period,
-            ))
-        }
-        OfTimes::Picture { rows, names: None } => {
-            let picture = Picture { rows, names: None };
-            done(run_sheet(alloc, &picture, instance, reader, writer, period))
-        }
-        OfTimes::Picture {
-            rows,
-            names: Some(file),
-        } => {
-            let names = names_in(rt, file)?;
-            let picture = Picture {
-                rows,
-                names: Some(&names),
-            };
-            done(run_sheet(alloc, &picture, instance, reader, writer, period))
-        }
-        OfTimes::Diagrams { names: file, along } => {
-            let names = names_in(rt, file)?;
-            let diagrams = Diagrams {
-                names: &names,
-                along,
-            };
-            done(run_sheet(alloc, &diagrams, instance, reader, writer, period))
-        }
-        OfTimes::Timetable { names: None, json } => {
-            let sheet = Timetable { names: None, json };
+        OfTimes::Report { names } => reported(rt, instance, reader, writer, period, names),
+        OfTimes::Picture { rows, names: file } => {
+            let told = names_of(rt, file)?;
+            let names = told.as_ref();
+            let sheet = Picture { rows, names };
             done(run_sheet(alloc, &sheet, instance, reader, writer, period))
         }
-        OfTimes::Timetable {
-            names: Some(file),
-            json,
-        } => {
-            let names = names_in(rt, file)?;
-            let sheet = Timetable {
-                names: Some(&names),
-                json,
-            };
+        OfTimes::Diagrams { names: file, along } => {
+            let told = names_in(rt, file)?;
+            let names = &told;
+            let sheet = Diagrams { names, along };
+            done(run_sheet(alloc, &sheet, instance, reader, writer, period))
+        }
+        OfTimes::Timetable { names: file, json } => {
+            let told = names_of(rt, file)?;
+            let names = told.as_ref();
+            let sheet = Timetable { names, json };
             done(run_sheet(alloc, &sheet, instance, reader, writer, period))
         }
         OfTimes::Fix {
@@ -591,12 +599,9 @@ pub(crate) fn of_times<R: AllocGlobal + Eprint + Files, I: Source, S: Source, W:
             let wanted = Wanted { events, lines };
             fix(rt, instance, reader, writer, period, names, wanted)
         }
-        OfTimes::Page { names: None } => {
-            done(run_sheet(alloc, &HtmlPage(None), instance, reader, writer, period))
-        }
-        OfTimes::Page { names: Some(file) } => {
-            let names = names_in(rt, file)?;
-            let sheet = HtmlPage(Some(&names));
+        OfTimes::Page { names: file } => {
+            let told = names_of(rt, file)?;
+            let sheet = HtmlPage(told.as_ref());
             done(run_sheet(alloc, &sheet, instance, reader, writer, period))
         }
     }
@@ -655,9 +660,10 @@ pub(crate) fn of_works<R: AllocGlobal, I: Source, B: Source, S: Source, W: Sink,
     let alloc = rt.alloc();
     match asked {
         OfWorks::Graft => done(run_graft(alloc, instance, base, reader, writer, teller, period)),
-        OfWorks::GraftSharp => done(run_graft_sharp(
-            alloc, instance, base, reader, writer, teller, period,
-        )),
+        OfWorks::GraftSharp => {
+            let task = &GraftSharp;
+            done(run_on_works(alloc, task, instance, base, reader, writer, teller, period))
+        }
     }
 }
 
@@ -689,10 +695,7 @@ pub(crate) fn opened_headed<'a, R: Eprint + Files>(
 }
 
 /// Opens a file with times, of which the beginning is kept.
-pub(crate) fn opened_times<R: Files>(
-    rt: &R,
-    file: &str,
-) -> Result<Counted<Beginning<R::File>>, Fault>
+fn opened_times<R: Files>(rt: &R, file: &str) -> Result<Counted<Beginning<R::File>>, Fault>
     ensures failed { IfOk result (λ file. file.calls.failed ≡ 0) }
     ensures interrupted { IfOk result (λ file. file.calls.interrupted ≡ 0) }
     ensures stopped { IfErr result (λ fault. fault ≡ Fault.NoFile) }
@@ -707,4 +710,17 @@ fn names_in<R: AllocGlobal + Files>(rt: &R, file: &str) -> Result<Names, Fault>
 {
     let mut reader = opened(rt, file)?;
     read_whole_names(rt.alloc(), &mut reader)
+}
+
+/// The names that a file tells, where one is named.
+fn names_of<R: AllocGlobal + Files>(rt: &R, file: Option<&str>) -> Result<Option<Names>, Fault>
+    ensures { IfErr result (λ fault. OrNamesOf file.entry fault ⊥) }
+{
+    match file {
+        None => Ok(None),
+        Some(file) => {
+            let names = names_in(rt, file)?;
+            Ok(Some(names))
+        }
+    }
 }

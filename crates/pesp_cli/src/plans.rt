@@ -2,19 +2,18 @@
 
 ghost use Rattle.std.specs.Prelude.{◌≡◌, ◌≢◌, ◌⊎◌, ◌<◌, ◌^◌, None, IfOk, IfErr, IfSome};
 ghost use Rattle.pesp_stream.specs.Counts.{FewerThan};
-ghost use Rattle.pesp_check_run.specs.Devices.{over};
-ghost use Rattle.pesp_cli.specs.Answers.{AnswersBegun, AnswersPlan, AnswersKept};
-ghost use Rattle.pesp_cli.specs.Stops.{StopsBegun, StopsPlan, StopsKept};
+ghost use Rattle.pesp_check.specs.Devices.{over};
+ghost use Rattle.pesp_cli.specs.Answers.{AnswersPlan, AnswersKept};
+ghost use Rattle.pesp_cli.specs.Stops.{StopsPlan, StopsKept};
 
-use crate::answers::{done, opened_times};
-use crate::input::warn_of_period;
+use crate::answers::{done, search};
+use pesp_old_times::{FromOldTimes, Listener};
 use pesp_plan::{
-    FileShelf, KeptPlan, Listener, Lockable, Overseer, Plan, ShelfRefusal, run_from_old,
+    Again, FileShelf, Hearer, KeptPlan, Lockable, Overseer, Plan, Planner, ShelfRefusal,
     run_on_standing,
 };
-use pesp_progress::{Again, Hearer, Planner};
 use pesp_request::Planning;
-use pesp_runs::{Fault, Search, run_alone};
+use pesp_runs::Fault;
 use pesp_sharp_search::Sharpener;
 use pesp_stream::{Counted, Sink, Source};
 use std::rt::{Clock, Files};
@@ -65,45 +64,6 @@ fn found_on<R: Eprint + Files>(
     }
 }
 
-/// Makes a plan of the instance that the reader gives, which begins with the times in a file where one is named.
-#[tactic(auto, using(crate::proofs::Ends::finished))]
-fn begun<R: AllocGlobal + Eprint + Files, I: Source, W: Sink, S: Search, L: Listener>(
-    rt: &R,
-    reader: &mut I,
-    writer: &mut W,
-    period: u32,
-    from: Option<&str>,
-    plan: &mut S,
-    listener: &mut L,
-) -> Result<u8, Fault>
-    requires within { S.within plan.old }
-    requires reads_fit { FewerThan (2 ^ 62) (I.calls reader.old) }
-    requires writes_fit { FewerThan (2 ^ 62) (W.calls writer.old) }
-    ensures answered { IfOk result (AnswersBegun (S.writes plan.old plan.new) from.entry period
-        (over (I.remaining reader.old) (I.remaining reader.new)
-        (I.calls reader.old) (I.calls reader.new))
-        (over (W.contents writer.old) (W.contents writer.new)
-        (W.calls writer.old) (W.calls writer.new))) }
-    ensures stopped { IfErr result (λ fault. StopsBegun (S.stops plan.old) (S.writes plan.old plan.new) from.entry
-        fault period
-        (over (I.remaining reader.old) (I.remaining reader.new)
-        (I.calls reader.old) (I.calls reader.new))
-        (over (W.contents writer.old) (W.contents writer.new)
-        (W.calls writer.old) (W.calls writer.new))) }
-    ensures silent { IfErr result (λ fault. fault ≢ Fault.Write → writer.new ≡ writer.old) }
-{
-    let alloc = rt.alloc();
-    match from {
-        None => done(run_alone(alloc, plan, reader, writer, period)),
-        Some(file) => {
-            let mut times = opened_times(rt, file)?;
-            let run = run_from_old(alloc, plan, reader, &mut times, writer, period, listener);
-            warn_of_period(rt, &times.into_inner(), period);
-            done(run)
-        }
-    }
-}
-
 /// Makes a plan of the instance that the reader gives, and keeps it in a file: from the certificate that stands there, or its times
 /// where it is of other activities; where none stands there, from the times in a file where one is named.
 fn kept_in<
@@ -122,7 +82,7 @@ fn kept_in<
     from: Option<&str>,
     sharpener: F,
     overseer: K,
-    listener: &mut L,
+    start: &mut FromOldTimes<L>,
 ) -> Result<u8, Fault>
 where
     R::File: Lockable,
@@ -150,11 +110,12 @@ where
     };
     match found {
         Ok(None) => {
-            let answer = begun(rt, reader, writer, period, from, &mut plan, listener);
+            let answer = search(rt, reader, writer, period, from, &mut plan, start);
             drop(plan);
             answer
         }
         Ok(Some(mut base)) => {
+            let listener = &mut start.listener;
             let answer = done(run_on_standing(
                 alloc, &mut plan, reader, &mut base, writer, period, listener,
             ));
@@ -211,27 +172,21 @@ where
         instance,
     };
     let overseer = Planner::new(rt, seconds, quiet, again);
-    let mut hearer = Hearer::new(rt, quiet);
+    let mut start = FromOldTimes {
+        listener: Hearer::new(rt, quiet),
+    };
     match output {
         None => {
             let mut plan = Plan {
                 sharpener,
                 overseer,
             };
-            let answer = begun(rt, reader, writer, period, from, &mut plan, &mut hearer);
+            let answer = search(rt, reader, writer, period, from, &mut plan, &mut start);
             drop(plan);
             answer
         }
         Some(file) => kept_in(
-            rt,
-            reader,
-            writer,
-            period,
-            file,
-            from,
-            sharpener,
-            overseer,
-            &mut hearer,
+            rt, reader, writer, period, file, from, sharpener, overseer, &mut start,
         ),
     }
 }

@@ -2,7 +2,7 @@
 
 ghost use Rattle.std.specs.Prelude.{◌≡◌, ◌≢◌, ◌<◌, ◌≤◌, ◌^◌, IfOk, IfErr};
 ghost use Rattle.pesp_stream.specs.Counts.{FewerThan};
-ghost use Rattle.pesp_check_run.specs.Devices.{over};
+ghost use Rattle.pesp_check.specs.Devices.{over};
 ghost use Rattle.pesp_request.specs.Requests.{IsWithinLimits};
 ghost use Rattle.pesp_cli.specs.Answers.{Answers};
 ghost use Rattle.pesp_cli.specs.Stops.{StopsProgram};
@@ -16,7 +16,7 @@ use crate::output::writer_of;
 use crate::telling::told;
 use clap::Error;
 use clap::error::ErrorKind;
-use pesp_check_run::teller_of;
+use pesp_check::teller_of;
 use pesp_plan::Lockable;
 use pesp_request::{Asked, OfInstance, Request, request_of};
 use pesp_runs::{Fault, status_of};

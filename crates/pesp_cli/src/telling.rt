@@ -2,16 +2,15 @@
 
 ghost use Rattle.std.specs.Prelude.{◌≡◌, ◌<◌, ◌^◌};
 ghost use Rattle.pesp_stream.specs.Counts.{FewerThan};
-ghost use Rattle.pesp_check_run.specs.Devices.{over};
+ghost use Rattle.pesp_check.specs.Devices.{over};
 ghost use Rattle.pesp_report_run.specs.Told.{told_text};
-ghost use Rattle.pesp_check_run.specs.Lines.{GetsLine};
+ghost use Rattle.pesp_check.specs.Lines.{GetsLine};
 ghost use Rattle.pesp_cli.specs.Answers.{TellsFault, fix_status};
 
-use pesp_check_run::tell;
-use pesp_report_run::Told;
+use pesp_check::tell;
+use pesp_report_run::{FixRefusal, Told};
 use pesp_runs::{Fault, status_of};
 use pesp_stream::{Bytes, Sink};
-use pesp_timetable::FixRefusal;
 use std::alloc::Global;
 
 /// Tells a fault on a line, and gives its exit status, whether or not the line went out. Where the line finds no memory, that is

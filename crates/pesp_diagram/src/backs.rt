@@ -1,7 +1,7 @@
 //! Events of trains that go back.
 
 use pesp_problem::{Instance, Row};
-use pesp_railway::RailwayNetwork;
+use pesp_railway::{Direction, RailwayNetwork, direction_of};
 use std::alloc::{AllocError, Global};
 
 /// Of each event, by its number in the instance, whether a train goes back from it or to it.
@@ -10,33 +10,17 @@ pub struct Backs {
     goes_back: Vec<bool>,
 }
 
-/// Whether an activity is a train that goes back along its line.
-fn is_back(network: &RailwayNetwork<'_>, row: &Row) -> bool {
-    let (Some(tail), Some(head)) = (network.at(row.tail), network.at(row.head)) else {
-        return false;
-    };
-    tail.line == head.line && tail.station > head.station
-}
-
 impl Backs {
-    /// No event.
-    fn none(alloc: Global, instance: &Instance) -> Result<Backs, AllocError> {
-        let mut goes_back = Vec::new(alloc);
-        for _ in instance.events() {
-            goes_back.push(false)?;
-        }
-        Ok(Backs { goes_back })
-    }
-
     /// The events of the trains that go back.
     pub fn of(
         alloc: Global,
         instance: &Instance,
         network: &RailwayNetwork<'_>,
     ) -> Result<Backs, AllocError> {
-        let mut backs = Backs::none(alloc, instance)?;
+        let goes_back = vec![in alloc; false; instance.events().len()]?;
+        let mut backs = Backs { goes_back };
         for row in instance.rows() {
-            if is_back(network, row) {
+            if direction_of(network, row) == Direction::Back {
                 backs.add(row.tail);
                 backs.add(row.head);
             }

@@ -8,8 +8,8 @@ ghost use Rattle.pesp_problem.specs.Timetables.{IsTimetable};
 ghost use Rattle.pesp_report.specs.Reporting.{IfBlamed, Refuses, UnlessBlamed};
 
 use crate::frame::{
-    PlotColumn, open_picture, open_plot, write_front, write_left, write_left_words, write_legend,
-    write_scale, write_stations,
+    PlotColumn, open_picture, open_plot, write_diagrams_front, write_left, write_left_words,
+    write_legend, write_scale, write_stations,
 };
 use crate::heights::Heights;
 use crate::layout::{Corner, Layout};
@@ -97,7 +97,7 @@ fn write_diagrams(
     let scene = Scene::of(alloc, instance, times, network)?;
     let column = PlotColumn::of(&scene.network.lines);
     let layout = Layout::of(alloc, &scene.heights, column.width)?;
-    write_front(
+    write_diagrams_front(
         text,
         column,
         &layout,

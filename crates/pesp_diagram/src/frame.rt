@@ -3,7 +3,7 @@
 use crate::heights::Heights;
 use crate::layout::Layout;
 use crate::places::{Across, PLOT};
-use pesp_draw::{Escaped, Shortened, step_for};
+use pesp_draw::{Escaped, PictureFront, Shortened, open_svg, step_for, write_front};
 use pesp_railway::{Line, RailwayNetwork};
 use std::alloc::AllocError;
 
@@ -100,16 +100,8 @@ impl PlotColumn {
     }
 }
 
-/// Opens a picture of a size.
-fn open_svg(text: &mut String, width: u32, height: u32) -> Result<(), AllocError> {
-    writeln!(
-        text,
-        "<svg xmlns=\"http://www.w3.org/2000/svg\" width=\"{width}\" height=\"{height}\" viewBox=\"0 0 {width} {height}\" font-family=\"sans-serif\" font-size=\"12\">"
-    )
-}
-
 /// Writes the picture's beginning: its size, its style, its title and what the lines and marks mean.
-pub fn write_front(
+pub fn write_diagrams_front(
     text: &mut String,
     column: PlotColumn,
     layout: &Layout,
@@ -119,21 +111,18 @@ pub fn write_front(
 ) -> Result<(), AllocError> {
     let width = column.width.saturating_mul(layout.columns);
     let height = layout.end.saturating_add(BELOW);
-    open_svg(text, width, height)?;
-    writeln!(
-        text,
-        "<title>Trains of period {period}, cost {cost}</title>{STYLE}<rect width=\"{width}\" height=\"{height}\" fill=\"#fff\"/>"
-    )?;
-    writeln!(
-        text,
-        "<text class=\"heading\" x=\"14\" y=\"20\">Trains of period {period}, cost {cost}</text>"
-    )?;
-    text.push_str(if network.is_corridor {
-        CORRIDOR
-    } else {
-        LEGEND
-    })?;
-    text.push('\n')
+    let front = PictureFront {
+        shown: "Trains",
+        period,
+        cost,
+        style: STYLE,
+        legend: if network.is_corridor {
+            CORRIDOR
+        } else {
+            LEGEND
+        },
+    };
+    write_front(text, width, height, front)
 }
 
 /// Writes a picture of what the lines and marks mean, with their style.

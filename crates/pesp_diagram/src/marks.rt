@@ -33,10 +33,7 @@ impl MarkCounts {
     /// No marks, at so many stations.
     pub fn none(alloc: Global, stations: usize) -> Result<MarkCounts, AllocError> {
         let places = stations.saturating_mul(PLACES as usize);
-        let mut counts = Vec::new(alloc);
-        for _ in 0..places {
-            counts.push(0)?;
-        }
+        let counts = vec![in alloc; 0u32; places]?;
         Ok(MarkCounts { counts })
     }
 

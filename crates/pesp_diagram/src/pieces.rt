@@ -44,6 +44,12 @@ impl<'a> DrawnPiece<'a> {
         })
     }
 
+    /// When it ends, as a time of the period.
+    fn end(&self, period: u32) -> i64 {
+        let end = self.time.saturating_add(self.duration);
+        end.rem_euclid(i64::from(period.max(1)))
+    }
+
     /// Whether it is drawn as a mark.
     fn is_mark(&self) -> bool {
         self.kind == ActivityKind::Leave || self.kind == ActivityKind::Join
@@ -73,9 +79,7 @@ fn write_title(
         Escaped(network.station(piece.head)),
     );
     let DrawnPiece { time, duration, .. } = *piece;
-    let end = time
-        .saturating_add(duration)
-        .rem_euclid(i64::from(instance.period().max(1)));
+    let end = piece.end(instance.period());
     write!(
         text,
         "<title>Activity {label}: {first} {from} at {time}, {second} {to} at {end}; lasts {duration} of {lower} to {upper}, weight {weight}</title>"
@@ -159,8 +163,7 @@ fn write_minutes(
     period: u32,
     piece: &DrawnPiece<'_>,
 ) -> Result<(), AllocError> {
-    let length = i64::from(period.max(1));
-    let end = piece.time.saturating_add(piece.duration).rem_euclid(length);
+    let end = piece.end(period);
     let (x, to) = (Across::of(period, piece.time), Across::of(period, end));
     let is_back = piece.tail.station > piece.head.station;
     let (behind, before) = if is_back { (0, 17) } else { (17, 0) };
@@ -188,8 +191,7 @@ fn write_mark(
     marks: &mut MarkCounts,
     piece: &DrawnPiece<'_>,
 ) -> Result<(), AllocError> {
-    let length = i64::from(period.max(1));
-    let end = piece.time.saturating_add(piece.duration).rem_euclid(length);
+    let end = piece.end(period);
     let (class, radius, time, place) = if piece.kind == ActivityKind::Leave {
         ("leave", 3_u32, piece.time, piece.tail)
     } else {

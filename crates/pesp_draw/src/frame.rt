@@ -1,6 +1,7 @@
 //! What stands round the rows.
 
 use crate::columns::Columns;
+use crate::front::PictureFront;
 use pesp_report::Line;
 use std::alloc::AllocError;
 
@@ -19,28 +20,15 @@ const LEGEND: &str =
 <rect class=\"room\" width=\"24\" height=\"2\" x=\"396\" y=\"5\"/><path class=\"mark\" d=\"M420 0v12\"/><text x=\"428\" y=\"10\">up to the greatest duration</text>\
 <path class=\"arrow\" d=\"M632 1l8 5l-8 5z\"/><text x=\"646\" y=\"10\">goes on from the end of the row</text></g>";
 
-/// Writes the picture's beginning: its size, its style, its title and what the colours mean.
-pub fn write_front(
-    text: &mut String,
-    width: u32,
-    height: u32,
-    period: u32,
-    cost: u64,
-) -> Result<(), AllocError> {
-    writeln!(
-        text,
-        "<svg xmlns=\"http://www.w3.org/2000/svg\" width=\"{width}\" height=\"{height}\" viewBox=\"0 0 {width} {height}\" font-family=\"sans-serif\" font-size=\"12\">"
-    )?;
-    writeln!(
-        text,
-        "<title>Timetable of period {period}, cost {cost}</title>{STYLE}<rect width=\"{width}\" height=\"{height}\" fill=\"#fff\"/>"
-    )?;
-    writeln!(
-        text,
-        "<text class=\"heading\" x=\"14\" y=\"20\">Timetable of period {period}, cost {cost}</text>"
-    )?;
-    text.push_str(LEGEND)?;
-    text.push('\n')
+/// What stands at the beginning of a picture of a timetable of this cost.
+pub fn front_of(period: u32, cost: u64) -> PictureFront<'static> {
+    PictureFront {
+        shown: "Timetable",
+        period,
+        cost,
+        style: STYLE,
+        legend: LEGEND,
+    }
 }
 
 /// Writes the headings of the activities' columns.

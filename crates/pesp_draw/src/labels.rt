@@ -1,4 +1,4 @@
-//! How events are called in a picture.
+//! How events are called in a picture or on a page.
 
 use crate::escaped::Escaped;
 use crate::shortened::Shortened;
@@ -9,6 +9,13 @@ use std::fmt;
 #[derive(Clone, Copy)]
 pub struct Labels<'a> {
     names: Option<&'a Names>,
+}
+
+/// An event's name, or its label where it has none.
+#[derive(Clone, Copy, Drop)]
+pub struct NameLabel<'a> {
+    label: i64,
+    name: &'a str,
 }
 
 /// What an event is called in a column.
@@ -42,6 +49,12 @@ impl<'a> Labels<'a> {
         }
     }
 
+    /// An event's name, or its label where it has none.
+    pub fn named(&self, label: i64) -> NameLabel<'a> {
+        let name = self.name(label);
+        NameLabel { label, name }
+    }
+
     /// What an event is called in a column.
     pub fn called(&self, label: i64) -> ColumnLabel<'a> {
         let name = self.name(label);
@@ -62,6 +75,17 @@ impl ColumnLabel<'_> {
             return label;
         }
         Shortened(self.name).characters()
+    }
+}
+
+impl fmt::Display for NameLabel<'_> {
+    fn fmt<W: fmt::Write>(&self, f: &mut fmt::Formatter<W>) -> fmt::Result {
+        let NameLabel { label, name } = *self;
+        if name.is_empty() {
+            return write!(f, "{label}");
+        }
+        let name = Escaped(name);
+        write!(f, "{name}")
     }
 }
 

@@ -8,6 +8,7 @@ mod columns;
 mod escaped;
 mod events;
 mod frame;
+mod front;
 mod labels;
 mod picture;
 mod pixels;
@@ -18,6 +19,8 @@ mod stretch;
 
 pub use choice::ActivityFilter;
 pub use escaped::Escaped;
+pub use front::{PictureFront, open_svg, write_front};
+pub use labels::Labels;
 pub use picture::draw;
 pub use scale::step_for;
 pub use shortened::Shortened;

@@ -10,7 +10,8 @@ ghost use Rattle.pesp_report.specs.Reporting.{IfBlamed, Refuses, UnlessBlamed};
 use crate::choice::ActivityFilter;
 use crate::columns::Columns;
 use crate::events::{EventTable, events_by_label, write_events};
-use crate::frame::{write_activities_left, write_event_heading, write_front, write_headings};
+use crate::frame::{front_of, write_activities_left, write_event_heading, write_headings};
+use crate::front::write_front;
 use crate::labels::Labels;
 use crate::rows::{RowHeights, write_activities};
 use crate::scale::write_scale;
@@ -78,13 +79,8 @@ fn picture_of(
     let table = EventTable::of(&columns, events.len());
     let heights = RowHeights::of(drawn.len(), table.rows);
     let mut text = String::new(alloc);
-    write_front(
-        &mut text,
-        columns.edge,
-        heights.bottom,
-        instance.period(),
-        cost,
-    )?;
+    let front = front_of(instance.period(), cost);
+    write_front(&mut text, columns.edge, heights.bottom, front)?;
     write_drawn(
         &mut text, &columns, labels, &heights, instance, times, drawn,
     )?;

@@ -10,13 +10,12 @@ use std::alloc::AllocError;
 /// How many pixels a row is high.
 pub const ROW: u32 = 18;
 
-/// Where the rows stand, in pixels from the top: the beginnings and ends of those of the activities and of the table of events.
+/// Where the rows of activities begin and end, where those of events begin, and the picture's end, in pixels from the top.
 #[derive(Clone, Copy)]
 pub struct RowHeights {
     pub activities: u32,
     pub activities_end: u32,
     pub events: u32,
-    pub events_end: u32,
     pub bottom: u32,
 }
 
@@ -26,13 +25,11 @@ impl RowHeights {
         let first = 84;
         let first_end = below(first, u32::try_from(activities).unwrap_or(u32::MAX));
         let second = first_end.saturating_add(84);
-        let second_end = below(second, events);
         RowHeights {
             activities: first,
             activities_end: first_end,
             events: second,
-            events_end: second_end,
-            bottom: second_end.saturating_add(30),
+            bottom: below(second, events).saturating_add(30),
         }
     }
 }

@@ -1,9 +1,10 @@
 //! How a line and a slack come into a basis together.
 
-use crate::fixed::{ONE, by_whole, is_nothing, over, times, whole};
-use crate::inverse::{make_zeros, set_at, take_outer, write_column};
 use crate::simplex::Simplex;
-use crate::updates::change_column;
+use pesp_basis::{
+    ONE, by_whole, change_column, is_nothing, make_zeros, over, set_at, take_outer, times, whole,
+    write_column,
+};
 use std::alloc::AllocError;
 
 /// Writes the listed numbers times a factor into a row that was 0.

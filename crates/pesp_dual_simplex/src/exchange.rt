@@ -2,11 +2,8 @@
 //! what goes leaves its own vacant, so that nothing is lost by rounding.
 
 use crate::bordering::turn;
-use crate::fixed::{ONE, over};
-use crate::inverse::{read_column, scale_all, set_at};
-use crate::members::{Entering, Leaving, Member};
 use crate::simplex::Simplex;
-use crate::updates::Update;
+use pesp_basis::{Entering, Leaving, Member, ONE, Update, over, read_column, scale_all, set_at};
 use std::alloc::AllocError;
 
 /// The number at a place; 0 where there is none.

@@ -5,27 +5,16 @@
 
 mod bordering;
 mod exchange;
-mod fixed;
-mod inverse;
-mod lines;
-mod members;
 mod moves;
 mod names;
-mod order;
-mod pricing;
 mod ratios;
 mod rebuilding;
 mod refreshing;
 mod saving;
 mod simplex;
 mod solving;
-mod sparse;
-mod state;
 mod tableau;
-mod updates;
 
-pub use fixed::{MOST, ONE, parts, rounded, whole};
 pub use names::BasisNames;
 pub use simplex::Simplex;
 pub use solving::SolveStatus;
-pub use state::State;

@@ -1,11 +1,66 @@
 //! How multipliers and slacks move at an exchange.
 
-use crate::fixed::{ONE, by_whole, is_nothing, over, times};
-use crate::inverse::{list_numbers, make_zeros, products};
-use crate::members::{Entering, Leaving, Member};
 use crate::simplex::Simplex;
-use crate::state::VACANT;
+use pesp_basis::{
+    Column, Entering, Leaving, Member, ONE, Sparse, Standing, State, VACANT, by_whole,
+    list_numbers, make_zeros, over, products, times,
+};
 use std::alloc::AllocError;
+
+/// Adds to the number at a place.
+fn add_at(numbers: &mut [i64], place: u32, number: i64) {
+    if let Some(slot) = numbers.get_mut(place as usize) {
+        *slot = slot.wrapping_add(number);
+    }
+}
+
+/// Takes what a slack that moves adds to tight lines away from what these have to be made up for.
+fn spread(column: &Column, sums: &[Standing], needs: &mut [i64], step: i64) {
+    for entry in &column.entries {
+        if let Some(sum) = sums.get(entry.line as usize)
+            && let Some(place) = sum.place
+        {
+            add_at(
+                needs,
+                place,
+                by_whole(step, entry.coefficient).wrapping_neg(),
+            );
+        }
+    }
+}
+
+/// Reduced costs fall by a step times the row of the tableau.
+fn move_reduced(state: &mut State, alpha: &Sparse, step: i64) {
+    for number in alpha.places() {
+        let part = times(step, alpha.get(*number));
+        if let Some(slack) = state.slacks.get_mut(*number as usize) {
+            slack.price = slack.price.wrapping_sub(part);
+        }
+    }
+}
+
+/// Multipliers fall by a step times the row of the tableau.
+fn move_multipliers(state: &mut State, weights: &[(u32, i64)], step: i64) {
+    for (place, weight) in weights {
+        if let Some(number) = state.tight.get(*place as usize)
+            && let Some(sum) = state.sums.get_mut(*number as usize)
+        {
+            sum.price = sum.price.wrapping_sub(times(step, *weight));
+        }
+    }
+}
+
+/// A slack moves, and all sums that it is in.
+fn move_slack(state: &mut State, column: &Column, number: u32, step: i64) {
+    if let Some(slack) = state.slacks.get_mut(number as usize) {
+        slack.value = slack.value.wrapping_add(step);
+    }
+    for entry in &column.entries {
+        if let Some(sum) = state.sums.get_mut(entry.line as usize) {
+            sum.value = sum.value.wrapping_add(by_whole(step, entry.coefficient));
+        }
+    }
+}
 
 impl Simplex {
     /// The coefficient of a slack at an end, or of a tight line, in the row of the tableau.
@@ -19,58 +74,14 @@ impl Simplex {
         }
     }
 
-    /// Reduced costs fall by a step times the row of the tableau.
-    fn move_reduced(&mut self, step: i64) {
-        for number in self.alpha.places() {
-            let part = times(step, self.alpha.get(*number));
-            if let Some(slack) = self.state.slacks.get_mut(*number as usize) {
-                slack.reduced = slack.reduced.wrapping_sub(part);
-            }
-        }
-    }
-
-    /// Multipliers fall by a step times the row of the tableau.
-    fn move_multipliers(&mut self, step: i64) {
-        for (place, weight) in &self.listed {
-            let number = self.state.tight.get(*place as usize).copied();
-            if let Some(sum) = self.state.sums.get_mut(number.unwrap_or(u32::MAX) as usize) {
-                sum.multiplier = sum.multiplier.wrapping_sub(times(step, *weight));
-            }
-        }
-    }
-
     /// Multipliers and reduced costs move until that of what enters is 0.
     pub(crate) fn move_prices(&mut self, leaving: Leaving, entering: Entering) {
         let step = leaving.signed(entering.ratio);
-        self.move_reduced(step);
-        self.move_multipliers(step);
+        move_reduced(&mut self.state, &self.alpha, step);
+        move_multipliers(&mut self.state, &self.listed, step);
         self.state.set_price(leaving.member, step);
         self.state.set_price(entering.member, 0);
         self.state.value = self.state.value.saturating_add(entering.gain);
-    }
-
-    /// Adds to what the tight line at a place has to be made up for.
-    fn add_number(&mut self, place: Option<u32>, number: i64) {
-        if let Some(place) = place
-            && let Some(slot) = self.numbers.get_mut(place as usize)
-        {
-            *slot = slot.wrapping_add(number);
-        }
-    }
-
-    /// What a slack that moves takes from tight lines.
-    fn spread(&mut self, number: u32, step: i64) {
-        let Some(column) = self.columns.get(number as usize) else {
-            return;
-        };
-        for entry in &column.entries {
-            if let Some(sum) = self.state.sums.get(entry.line as usize)
-                && let Some(place) = sum.place
-                && let Some(slot) = self.numbers.get_mut(place as usize)
-            {
-                *slot = slot.wrapping_sub(by_whole(step, entry.coefficient));
-            }
-        }
     }
 
     /// Moves a slack at an end, or the bound of a tight line.
@@ -78,23 +89,17 @@ impl Simplex {
         match member {
             Member::Slack(number) => {
                 self.moves.add(number, step)?;
-                self.spread(number, step);
+                if let Some(column) = self.columns.get(number as usize) {
+                    spread(column, &self.state.sums, &mut self.numbers, step);
+                }
             }
             Member::Line(_) => {
-                let place = self.state.place_of(member);
-                self.add_number(place, step);
+                if let Some(place) = self.state.place_of(member) {
+                    add_at(&mut self.numbers, place, step);
+                }
             }
         }
         Ok(())
-    }
-
-    /// Whether a slack or a tight line is at its upper end.
-    fn is_up(&self, member: Member) -> bool {
-        let is_up = match member {
-            Member::Slack(number) => self.state.slacks.get(number as usize).map(|it| it.is_up),
-            Member::Line(number) => self.state.sums.get(number as usize).map(|it| it.is_up),
-        };
-        is_up.unwrap_or(false)
     }
 
     /// A candidate goes to its other end; what that adds to what leaves.
@@ -103,7 +108,7 @@ impl Simplex {
             return Ok(0);
         };
         let member = candidate.member;
-        let is_up = self.is_up(member);
+        let is_up = self.state.is_up(member);
         let range = self.range_of(member);
         let step = if is_up { range.wrapping_neg() } else { range };
         self.state.set_end(member, !is_up);
@@ -126,13 +131,7 @@ impl Simplex {
 
     /// Moves the basic slacks by a step times the factors.
     fn move_basic(&mut self, step: i64) -> Result<(), AllocError> {
-        for (number, factor) in self.state.basic.iter().zip(self.factors.iter()) {
-            let part = times(step, *factor);
-            if !is_nothing(part) {
-                self.moves.add(*number, part)?;
-            }
-        }
-        Ok(())
+        self.moves.add_times(&self.state.basic, &self.factors, step)
     }
 
     /// Candidates go to their other end, and basic slacks move so that tight lines stay tight; what that adds to what leaves.
@@ -166,28 +165,13 @@ impl Simplex {
         }
     }
 
-    /// A slack moves, and all sums that it is in.
-    fn move_slack(&mut self, number: u32, step: i64) {
-        let Some(column) = self.columns.get(number as usize) else {
-            return;
-        };
-        if let Some(slack) = self.state.slacks.get_mut(number as usize) {
-            slack.value = slack.value.wrapping_add(step);
-        }
-        for entry in &column.entries {
-            if let Some(sum) = self.state.sums.get_mut(entry.line as usize) {
-                sum.value = sum.value.wrapping_add(by_whole(step, entry.coefficient));
-            }
-        }
-        self.work = self.work.wrapping_add(column.entries.len() as u64);
-    }
-
     /// Slacks move as they are listed.
     fn move_listed(&mut self) {
-        for at in 0..self.moves.places().len() {
-            if let Some(number) = self.moves.places().get(at).copied() {
-                let step = self.moves.get(number);
-                self.move_slack(number, step);
+        for number in self.moves.places() {
+            let step = self.moves.get(*number);
+            if let Some(column) = self.columns.get(*number as usize) {
+                move_slack(&mut self.state, column, *number, step);
+                self.work = self.work.wrapping_add(column.entries.len() as u64);
             }
         }
         self.moves.clear();

@@ -1,7 +1,7 @@
 //! Bases by names.
 
 use crate::simplex::Simplex;
-use crate::state::VACANT;
+use pesp_basis::{State, VACANT};
 use std::alloc::{AllocError, Global};
 
 /// A basis: the basic slacks, the tight lines, each with whether it is at its greatest value, and the slacks at their span.
@@ -23,74 +23,77 @@ impl BasisNames {
     }
 }
 
+/// The slacks that aren't basic and stand at their span.
+fn list_up(state: &State, up: &mut Vec<u32>) -> Result<(), AllocError> {
+    up.clear();
+    let mut number = 0u32;
+    for slack in &state.slacks {
+        if slack.is_up && slack.place.is_none() {
+            up.push(number)?;
+        }
+        number = number.wrapping_add(1);
+    }
+    Ok(())
+}
+
+/// The slacks that are basic.
+fn list_basic(state: &State, basic: &mut Vec<u32>) -> Result<(), AllocError> {
+    basic.clear();
+    for number in &state.basic {
+        if *number != VACANT {
+            basic.push(*number)?;
+        }
+    }
+    Ok(())
+}
+
+/// The lines that are tight, each with whether it is at its greatest value.
+fn list_tight(state: &State, tight: &mut Vec<(u32, bool)>) -> Result<(), AllocError> {
+    tight.clear();
+    for number in &state.tight {
+        if let Some(sum) = state.sums.get(*number as usize) {
+            tight.push((*number, sum.is_up))?;
+        }
+    }
+    Ok(())
+}
+
+/// The slacks that are named stand at their span, and no others.
+fn set_up(state: &mut State, up: &[u32]) {
+    state.clear_up();
+    for number in up {
+        if let Some(slack) = state.slacks.get_mut(*number as usize) {
+            slack.is_up = true;
+        }
+    }
+}
+
+/// The lines that are named are tight, at these ends.
+fn set_tight(state: &mut State, tight: &[(u32, bool)]) -> Result<(), AllocError> {
+    state.tight.clear();
+    for (number, is_up) in tight {
+        state.tight.push(*number)?;
+        if let Some(sum) = state.sums.get_mut(*number as usize) {
+            sum.is_up = *is_up;
+        }
+    }
+    Ok(())
+}
+
 impl Simplex {
-    /// The slacks that aren't basic and stand at their span.
-    fn list_up(&self, up: &mut Vec<u32>) -> Result<(), AllocError> {
-        let mut number = 0u32;
-        for slack in &self.state.slacks {
-            if slack.is_up && slack.place.is_none() {
-                up.push(number)?;
-            }
-            number = number.wrapping_add(1);
-        }
-        Ok(())
-    }
-
-    /// The slacks that are basic.
-    fn list_basic(&self, basic: &mut Vec<u32>) -> Result<(), AllocError> {
-        basic.clear();
-        for number in &self.state.basic {
-            if *number != VACANT {
-                basic.push(*number)?;
-            }
-        }
-        Ok(())
-    }
-
     /// Writes down the basis.
     pub fn name(&self, names: &mut BasisNames) -> Result<(), AllocError> {
-        self.list_basic(&mut names.basic)?;
-        names.tight.clear();
-        for number in &self.state.tight {
-            if let Some(sum) = self.state.sums.get(*number as usize) {
-                names.tight.push((*number, sum.is_up))?;
-            }
-        }
-        names.up.clear();
-        self.list_up(&mut names.up)
-    }
-
-    /// No slack stands at its span.
-    fn clear_up(&mut self) {
-        for slack in self.state.slacks.iter_mut() {
-            slack.is_up = false;
-        }
-    }
-
-    /// Sets at which ends slacks and lines stand.
-    fn set_named_ends(&mut self, names: &BasisNames) {
-        for number in &names.up {
-            if let Some(slack) = self.state.slacks.get_mut(*number as usize) {
-                slack.is_up = true;
-            }
-        }
-        for (number, is_up) in &names.tight {
-            if let Some(sum) = self.state.sums.get_mut(*number as usize) {
-                sum.is_up = *is_up;
-            }
-        }
+        list_basic(&self.state, &mut names.basic)?;
+        list_tight(&self.state, &mut names.tight)?;
+        list_up(&self.state, &mut names.up)
     }
 
     /// Goes to a basis that is named.
     pub fn take_names(&mut self, names: &BasisNames) -> Result<(), AllocError> {
         self.state.basic.clear();
         self.state.basic.extend_from_slice(&names.basic)?;
-        self.state.tight.clear();
-        for (number, _) in &names.tight {
-            self.state.tight.push(*number)?;
-        }
-        self.clear_up();
-        self.set_named_ends(names);
+        set_up(&mut self.state, &names.up);
+        set_tight(&mut self.state, &names.tight)?;
         self.rebuild()
     }
 }

@@ -1,8 +1,10 @@
 //! The ratio test, in which slacks and lines may go to their other end.
 
-use crate::fixed::{MOST, amount, times};
-use crate::members::{Entering, EnteringCandidate, First, Leaving, Member};
 use crate::simplex::Simplex;
+use pesp_basis::{
+    Column, Constraint, Entering, EnteringCandidate, First, Leaving, MOST, Member, State, amount,
+    range_at, span_at, times,
+};
 use std::alloc::AllocError;
 
 /// A coefficient below this doesn't count.
@@ -31,41 +33,58 @@ fn candidate(member: Member, price: i64, rise: i64, is_up: bool) -> Option<Enter
     })
 }
 
+/// Puts the first of the candidates from a place on there.
+fn put_first(candidates: &mut [EnteringCandidate], place: usize) -> Option<First> {
+    let mut at = place;
+    let mut first = candidates.get(place).copied()?.with_ratio();
+    for (other, candidate) in candidates.iter().enumerate().skip(place) {
+        if let Some(better) = first.before(candidate) {
+            first = better;
+            at = other;
+        }
+    }
+    if place < candidates.len() && at < candidates.len() {
+        candidates.swap(place, at);
+    }
+    Some(first)
+}
+
+/// A slack at an end as a candidate.
+fn slack_candidate(
+    state: &State,
+    columns: &[Column],
+    number: u32,
+    rise: i64,
+) -> Option<EnteringCandidate> {
+    let slack = state.slacks.get(number as usize)?;
+    if span_at(columns, number as usize) == 0 {
+        return None;
+    }
+    candidate(Member::Slack(number), slack.price, rise, slack.is_up)
+}
+
+/// The tight line at a place as a candidate.
+fn line_candidate(
+    state: &State,
+    lines: &[Constraint],
+    place: u32,
+    rise: i64,
+) -> Option<EnteringCandidate> {
+    let number = state.tight.get(place as usize).copied()?;
+    let sum = state.sums.get(number as usize)?;
+    if range_at(lines, number) <= 0 {
+        return None;
+    }
+    candidate(Member::Line(number), sum.price, rise, sum.is_up)
+}
+
 impl Simplex {
-    /// A slack at an end as a candidate.
-    fn slack_candidate(&self, leaving: Leaving, number: u32) -> Option<EnteringCandidate> {
-        let slack = self.state.slacks.get(number as usize)?;
-        let span = self.columns.get(number as usize)?.span;
-        if span == 0 {
-            return None;
-        }
-        let rise = leaving.signed(self.alpha.get(number));
-        candidate(Member::Slack(number), slack.reduced, rise, slack.is_up)
-    }
-
-    /// A tight line as a candidate.
-    fn line_candidate(
-        &self,
-        leaving: Leaving,
-        place: u32,
-        weight: i64,
-    ) -> Option<EnteringCandidate> {
-        let number = self.state.tight.get(place as usize).copied()?;
-        let sum = self.state.sums.get(number as usize)?;
-        if self.lines.get(number as usize)?.range() <= 0 {
-            return None;
-        }
-        let rise = leaving.signed(weight);
-        candidate(Member::Line(number), sum.multiplier, rise, sum.is_up)
-    }
-
     /// Lists the slacks that may enter.
     fn list_slacks(&mut self, leaving: Leaving) -> Result<(), AllocError> {
         self.candidates.clear();
-        for at in 0..self.alpha.places().len() {
-            let number = self.alpha.places().get(at).copied().unwrap_or(0);
-            let found = self.slack_candidate(leaving, number);
-            if let Some(found) = found {
+        for number in self.alpha.places() {
+            let rise = leaving.signed(self.alpha.get(*number));
+            if let Some(found) = slack_candidate(&self.state, &self.columns, *number, rise) {
                 self.candidates.push(found)?;
             }
         }
@@ -75,10 +94,9 @@ impl Simplex {
     /// Lists what may enter.
     pub(crate) fn list_candidates(&mut self, leaving: Leaving) -> Result<(), AllocError> {
         self.list_slacks(leaving)?;
-        for at in 0..self.listed.len() {
-            let (place, weight) = self.listed.get(at).copied().unwrap_or((u32::MAX, 0));
-            let found = self.line_candidate(leaving, place, weight);
-            if let Some(found) = found {
+        for (place, weight) in &self.listed {
+            let rise = leaving.signed(*weight);
+            if let Some(found) = line_candidate(&self.state, &self.lines, *place, rise) {
                 self.candidates.push(found)?;
             }
         }
@@ -88,25 +106,9 @@ impl Simplex {
     /// How far the ends of a slack or of a line are from each other.
     pub(crate) fn range_of(&self, member: Member) -> i64 {
         match member {
-            Member::Slack(number) => self.columns.get(number as usize).map_or(0, |it| it.span),
-            Member::Line(number) => self.lines.get(number as usize).map_or(0, |it| it.range()),
+            Member::Slack(number) => span_at(&self.columns, number as usize),
+            Member::Line(number) => range_at(&self.lines, number),
         }
-    }
-
-    /// Puts the first of the candidates from a place on there.
-    fn put_first(&mut self, place: usize) -> Option<First> {
-        let mut at = place;
-        let mut first = self.candidates.get(place).copied()?.with_ratio();
-        for (other, candidate) in self.candidates.iter().enumerate().skip(place) {
-            if let Some(better) = first.before(candidate) {
-                first = better;
-                at = other;
-            }
-        }
-        if place < self.candidates.len() && at < self.candidates.len() {
-            self.candidates.swap(place, at);
-        }
-        Some(first)
     }
 
     /// What enters: the candidates go to their other ends by rising ratio, as long as something of the violation is left. None
@@ -116,7 +118,7 @@ impl Simplex {
         let mut gain = 0i64;
         let mut last = 0i64;
         for flips in 0..self.candidates.len() {
-            let First { candidate, ratio } = self.put_first(flips)?;
+            let First { candidate, ratio } = put_first(&mut self.candidates, flips)?;
             let EnteringCandidate { member, size, .. } = candidate;
             gain = gain.wrapping_add(times(left, ratio.wrapping_sub(last)));
             last = ratio;

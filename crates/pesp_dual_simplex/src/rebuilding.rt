@@ -1,10 +1,7 @@
 //! The inverse of a basis anew, line by line.
 
-use crate::fixed::amount;
-use crate::inverse::{clear_rows, widen};
-use crate::members::Member;
-use crate::order::Beside;
 use crate::simplex::Simplex;
+use pesp_basis::{Beside, Member, Order, Sparse, amount, clear_rows, widen};
 use std::alloc::AllocError;
 use std::mem::swap;
 
@@ -19,50 +16,57 @@ struct EnteringSlack {
     lines: u32,
 }
 
+impl EnteringSlack {
+    /// Whether it is in fewer lines than the best so far, or in as many with a greater coefficient.
+    fn is_better(&self, best: &Option<EnteringSlack>) -> bool {
+        match best {
+            Some(best) => {
+                self.lines < best.lines || (self.lines == best.lines && self.size > best.size)
+            }
+            None => true,
+        }
+    }
+}
+
+/// The greatest coefficient of an open slack.
+fn greatest_open(order: &Order, alpha: &Sparse) -> i64 {
+    let mut greatest = 0i64;
+    for number in alpha.places() {
+        if order.is_open(*number) {
+            greatest = greatest.max(amount(alpha.get(*number)));
+        }
+    }
+    greatest
+}
+
+/// An open slack as a pivot, where the amount of its coefficient is great enough.
+fn pivot_of(order: &Order, slack: u32, size: i64, least: i64) -> Option<EnteringSlack> {
+    if !order.is_open(slack) || size < least {
+        return None;
+    }
+    Some(EnteringSlack {
+        slack,
+        size,
+        lines: order.lines_of(slack),
+    })
+}
+
+/// The open slack that comes in beside the line that was weighed: of great coefficient, in few lines (Markowitz 1957).
+fn choose_pivot(order: &Order, alpha: &Sparse) -> Option<u32> {
+    let least = (greatest_open(order, alpha) >> 2).max(LEAST_PIVOT);
+    let mut best: Option<EnteringSlack> = None;
+    for number in alpha.places() {
+        let size = amount(alpha.get(*number));
+        if let Some(pivot) = pivot_of(order, *number, size, least)
+            && pivot.is_better(&best)
+        {
+            best = Some(pivot);
+        }
+    }
+    Some(best?.slack)
+}
+
 impl Simplex {
-    /// The greatest coefficient of an open slack.
-    fn greatest_open(&self) -> i64 {
-        let mut greatest = 0i64;
-        for number in self.alpha.places() {
-            if self.order.is_open(*number) {
-                greatest = greatest.max(amount(self.alpha.get(*number)));
-            }
-        }
-        greatest
-    }
-
-    /// An open slack as a pivot, where its coefficient is great enough.
-    fn pivot_of(&self, slack: u32, least: i64) -> Option<EnteringSlack> {
-        let size = amount(self.alpha.get(slack));
-        if !self.order.is_open(slack) || size < least {
-            return None;
-        }
-        Some(EnteringSlack {
-            slack,
-            size,
-            lines: self.order.lines_of(slack),
-        })
-    }
-
-    /// The open slack that comes in beside the line that was weighed: of great coefficient, in few lines (Markowitz 1957).
-    fn choose_pivot(&self) -> Option<u32> {
-        let least = (self.greatest_open() >> 2).max(LEAST_PIVOT);
-        let mut best: Option<EnteringSlack> = None;
-        for number in self.alpha.places() {
-            if let Some(pivot) = self.pivot_of(*number, least) {
-                best = match best {
-                    Some(other)
-                        if (other.lines, pivot.size) < (pivot.lines, other.size)
-                            || (other.lines == pivot.lines && other.size >= pivot.size) => {
-                        Some(other)
-                    }
-                    _ => Some(pivot),
-                };
-            }
-        }
-        Some(best?.slack)
-    }
-
     /// A line that was weighed and a slack come in, of which it has this coefficient.
     fn bring(&mut self, beside: Beside, coefficient: i64) -> Result<(), AllocError> {
         if amount(coefficient) < LEAST_PIVOT {
@@ -75,7 +79,7 @@ impl Simplex {
     /// A line comes in with an open slack, where one has a great enough coefficient.
     fn bring_line(&mut self, line: u32) -> Result<(), AllocError> {
         self.weigh(Member::Line(line))?;
-        let Some(slack) = self.choose_pivot() else {
+        let Some(slack) = choose_pivot(&self.order, &self.alpha) else {
             self.order.skip(line);
             return Ok(());
         };
@@ -111,24 +115,8 @@ impl Simplex {
 
     /// Nothing has a place.
     fn clear_places(&mut self) {
-        for slack in self.state.slacks.iter_mut() {
-            slack.place = None;
-        }
-        for sum in self.state.sums.iter_mut() {
-            sum.place = None;
-        }
+        self.state.clear_places();
         self.forget_changes();
-    }
-
-    /// Slacks that should be basic and aren't stay at 0.
-    fn lower(&mut self, basic: &[u32]) {
-        for number in basic {
-            if let Some(slack) = self.state.slacks.get_mut(*number as usize)
-                && slack.place.is_none()
-            {
-                slack.is_up = false;
-            }
-        }
     }
 
     /// The inverse anew, of the basis that is named; nothing is tight where it comes out bad.
@@ -140,11 +128,11 @@ impl Simplex {
         self.clear_places();
         self.state.since = 0;
         let brought = self.bring_all(basic.len());
-        self.lower(&basic);
+        self.state.lower(&basic);
         drop(basic);
         brought?;
         self.refresh()?;
-        if self.is_bad() {
+        if self.state.is_bad(&self.lines) {
             self.reset()?;
         }
         Ok(())
@@ -167,9 +155,7 @@ impl Simplex {
         self.state.basic.clear();
         self.state.tight.clear();
         self.state.since = 0;
-        for slack in self.state.slacks.iter_mut() {
-            slack.is_up = false;
-        }
+        self.state.clear_up();
         self.refresh()
     }
 }

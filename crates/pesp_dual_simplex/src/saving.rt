@@ -1,14 +1,19 @@
 //! Going back to where a simplex stood.
 
-use crate::inverse::{drop_column, widen};
-use crate::members::Member;
 use crate::simplex::Simplex;
-use crate::state::{State, VACANT};
-use crate::updates::make_changes;
+use pesp_basis::{Member, State, VACANT, drop_column, make_changes, widen};
 use std::alloc::AllocError;
 
 /// How many changes of the inverse are still to be made at most where the simplex is gone back to.
 const FEW_UPDATES: usize = 16;
+
+/// Whether no slack or line stands at a place any longer.
+fn is_vacant(numbers: &[u32], place: usize) -> bool {
+    match numbers.get(place) {
+        Some(number) => *number == VACANT,
+        None => false,
+    }
+}
 
 /// Takes out what stands at a place; the last one takes its place, and is returned where it has moved.
 fn take_out(numbers: &mut Vec<u32>, place: usize) -> Option<u32> {
@@ -31,7 +36,7 @@ impl Simplex {
     /// Vacant places of basic slacks go.
     fn close_rows(&mut self) {
         for place in (0..self.state.basic.len()).rev() {
-            if self.state.basic.get(place).copied() == Some(VACANT) {
+            if is_vacant(&self.state.basic, place) {
                 take_row(&mut self.inverse, place);
                 if let Some(moved) = take_out(&mut self.state.basic, place) {
                     let number = u32::try_from(place).unwrap_or(VACANT);
@@ -44,7 +49,7 @@ impl Simplex {
     /// Vacant places of tight lines go.
     fn close_columns(&mut self) {
         for place in (0..self.state.tight.len()).rev() {
-            if self.state.tight.get(place).copied() == Some(VACANT) {
+            if is_vacant(&self.state.tight, place) {
                 let number = u32::try_from(place).unwrap_or(VACANT);
                 drop_column(&mut self.inverse, number);
                 if let Some(moved) = take_out(&mut self.state.tight, place) {

@@ -1,15 +1,12 @@
 //! A program with where its simplex stands.
 
-use crate::fixed::{by_whole, is_nothing};
-use crate::lines::{Coefficient, Column, Constraint};
-use crate::members::EnteringCandidate;
-use crate::order::Order;
-use crate::sparse::Sparse;
-use crate::state::{NO_SLACK, State, Sum};
+use pesp_basis::{
+    Column, Constraint, EnteringCandidate, Member, Order, Sparse, Standing, State, enter,
+    enter_all, is_nothing, price_at, sum_along,
+};
 use pesp_dual::Term;
 use pesp_network::NetRow;
 use std::alloc::{AllocError, Global};
-use std::mem::swap;
 
 /// The least weighted slack of rows, under lines; the inverse of the coefficients of basic slacks in tight lines, by slack, but
 /// for the changes that are still to be made; where the simplex stands; and what an exchange works with: what leaves by
@@ -35,15 +32,11 @@ pub struct Simplex {
     pub(crate) work: u64,
 }
 
-/// The sum of coefficients times slacks.
-pub(crate) fn sum_along(terms: &[Term], state: &State) -> i64 {
-    let mut sum = 0i64;
-    for term in terms {
-        if let Some(slack) = state.slacks.get(term.row as usize) {
-            sum = sum.wrapping_add(by_whole(slack.value, term.coefficient));
-        }
+/// Swaps what stands at two places.
+fn swap_at<T>(list: &mut [T], one: usize, other: usize) {
+    if one < list.len() && other < list.len() {
+        list.swap(one, other);
     }
-    sum
 }
 
 /// How many numbers don't count as 0.
@@ -60,20 +53,28 @@ fn count_of(numbers: &[i64]) -> u64 {
 impl Simplex {
     /// The program of these rows without a line, with all slacks 0; weights are in units of which so many make up one.
     pub fn new(alloc: Global, rows: &[NetRow], unit: u32) -> Result<Simplex, AllocError> {
-        let mut columns = Vec::with_capacity(alloc, rows.len())?;
-        for row in rows {
-            columns.push(Column::of(alloc, row, unit))?;
+        let mut simplex = Simplex::empty(alloc);
+        match simplex.begin(rows, unit) {
+            Ok(()) => Ok(simplex),
+            Err(refused) => {
+                drop(simplex);
+                Err(refused)
+            }
         }
-        let mut simplex = Simplex {
+    }
+
+    /// No program.
+    fn empty(alloc: Global) -> Simplex {
+        Simplex {
             alloc,
-            columns,
+            columns: Vec::new(alloc),
             lines: Vec::new(alloc),
             inverse: Vec::new(alloc),
             state: State::new(alloc),
             weights: Vec::new(alloc),
             listed: Vec::new(alloc),
-            alpha: Sparse::new(alloc, rows.len())?,
-            moves: Sparse::new(alloc, rows.len())?,
+            alpha: Sparse::new(alloc),
+            moves: Sparse::new(alloc),
             numbers: Vec::new(alloc),
             factors: Vec::new(alloc),
             others: Vec::new(alloc),
@@ -82,17 +83,17 @@ impl Simplex {
             order: Order::new(alloc),
             pivots: 0,
             work: 0,
-        };
-        simplex.begin()?;
-        Ok(simplex)
+        }
     }
 
-    /// All slacks are 0, and their reduced costs what they cost.
-    fn begin(&mut self) -> Result<(), AllocError> {
-        for column in &self.columns {
-            let mut slack = NO_SLACK;
-            slack.reduced = column.cost;
-            self.state.slacks.push(slack)?;
+    /// Takes in rows; all slacks are 0, and their reduced costs what they cost.
+    fn begin(&mut self, rows: &[NetRow], unit: u32) -> Result<(), AllocError> {
+        self.alpha.make_room(rows.len())?;
+        self.moves.make_room(rows.len())?;
+        for row in rows {
+            let column = Column::of(self.alloc, row, unit);
+            self.state.slacks.push(Standing::at(0, column.cost))?;
+            self.columns.push(column)?;
         }
         Ok(())
     }
@@ -124,7 +125,10 @@ impl Simplex {
 
     /// The value of a slack.
     pub fn slack(&self, number: usize) -> i64 {
-        self.state.slacks.get(number).map_or(0, |slack| slack.value)
+        match self.state.slacks.get(number) {
+            Some(slack) => slack.value,
+            None => 0,
+        }
     }
 
     /// The lines that are tight.
@@ -134,18 +138,12 @@ impl Simplex {
 
     /// Whether a line is tight.
     pub fn is_tight(&self, line: u32) -> bool {
-        match self.state.sums.get(line as usize) {
-            Some(sum) => sum.place.is_some(),
-            None => false,
-        }
+        self.state.place_of(Member::Line(line)).is_some()
     }
 
     /// The multiplier of a line.
     pub fn multiplier(&self, line: u32) -> i64 {
-        self.state
-            .sums
-            .get(line as usize)
-            .map_or(0, |sum| sum.multiplier)
+        price_at(&self.state.sums, line)
     }
 
     /// The multipliers that showed last that nothing is within all lines.
@@ -171,32 +169,14 @@ impl Simplex {
         }
     }
 
-    /// Puts the coefficients of a line in their columns.
-    fn enter(&mut self, number: u32, terms: &[Term]) -> Result<(), AllocError> {
-        for term in terms {
-            if let Some(column) = self.columns.get_mut(term.row as usize) {
-                column.entries.push(Coefficient {
-                    line: number,
-                    coefficient: term.coefficient,
-                })?;
-            }
-        }
-        Ok(())
-    }
-
     /// A line more, which isn't tight: its sum is from `least` to `most`, which may be `MOST`. Its number.
     pub fn add(&mut self, terms: &[Term], least: i64, most: i64) -> Result<u32, AllocError> {
         let number = u32::try_from(self.lines.len()).unwrap_or(u32::MAX);
         let line = Constraint::of(self.alloc, terms, least, most)?;
         self.lines.push(line)?;
-        self.enter(number, terms)?;
-        let value = sum_along(terms, &self.state);
-        self.state.sums.push(Sum {
-            value,
-            multiplier: 0,
-            place: None,
-            is_up: false,
-        })?;
+        enter(&mut self.columns, number, terms)?;
+        let value = sum_along(terms, &self.state.slacks);
+        self.state.sums.push(Standing::at(value, 0))?;
         Ok(number)
     }
 
@@ -208,87 +188,27 @@ impl Simplex {
         }
     }
 
-    /// The columns have no coefficients.
-    fn clear_entries(&mut self) {
-        for column in self.columns.iter_mut() {
-            column.entries.clear();
-        }
-    }
-
-    /// Puts the coefficients of all lines in their columns.
-    fn enter_all(&mut self) -> Result<(), AllocError> {
-        self.clear_entries();
-        let mut lines = Vec::new(self.alloc);
-        swap(&mut lines, &mut self.lines);
-        let mut entered = Ok(());
-        let mut number = 0u32;
-        for line in &lines {
-            if entered.is_ok() {
-                entered = self.enter(number, &line.terms);
-            }
-            number = number.wrapping_add(1);
-        }
-        swap(&mut lines, &mut self.lines);
-        drop(lines);
-        entered
-    }
-
     /// Keeps the lines that are marked and those that are tight; for each line its new number, where it is kept.
     pub fn keep(&mut self, marks: &[bool]) -> Result<Vec<Option<u32>>, AllocError> {
-        let numbers = self.numbers_kept(marks)?;
+        let numbers = self.state.numbers_kept(self.alloc, marks)?;
         let kept = self.move_lines(&numbers);
         self.lines.truncate(kept);
         self.state.sums.truncate(kept);
-        self.rename(&numbers);
-        self.enter_all()?;
+        self.state.rename(&numbers);
+        enter_all(&mut self.columns, &self.lines)?;
         Ok(numbers)
     }
 
-    /// The new numbers of the lines that are marked or tight.
-    fn numbers_kept(&self, marks: &[bool]) -> Result<Vec<Option<u32>>, AllocError> {
-        let mut numbers = Vec::with_capacity(self.alloc, self.lines.len())?;
-        let mut next = 0u32;
-        for (place, sum) in self.state.sums.iter().enumerate() {
-            let is_marked = marks.get(place).copied().unwrap_or(true);
-            if is_marked || sum.place.is_some() {
-                numbers.push(Some(next))?;
-                next = next.wrapping_add(1);
-            } else {
-                numbers.push(None)?;
-            }
-        }
-        Ok(numbers)
-    }
-
-    /// Moves lines to their new numbers, which rise; how many there are.
+    /// Moves lines to their new numbers, which rise by 1; how many there are.
     fn move_lines(&mut self, numbers: &[Option<u32>]) -> usize {
         let mut count = 0usize;
-        for place in 0..numbers.len() {
-            if let Some(Some(to)) = numbers.get(place).copied()
-                && self.move_line(place, to as usize).is_some()
-            {
+        for (place, number) in numbers.iter().enumerate() {
+            if number.is_some() {
+                swap_at(&mut self.state.sums, place, count);
+                swap_at(&mut self.lines, place, count);
                 count = count.wrapping_add(1);
             }
         }
         count
-    }
-
-    /// Moves a line down to a number.
-    fn move_line(&mut self, from: usize, to: usize) -> Option<()> {
-        let sum = self.state.sums.get(from).copied()?;
-        *self.state.sums.get_mut(to)? = sum;
-        if from < self.lines.len() && to < self.lines.len() {
-            self.lines.swap(from, to);
-        }
-        Some(())
-    }
-
-    /// Gives the tight lines their new numbers.
-    fn rename(&mut self, numbers: &[Option<u32>]) {
-        for tight in self.state.tight.iter_mut() {
-            if let Some(Some(number)) = numbers.get(*tight as usize).copied() {
-                *tight = number;
-            }
-        }
     }
 }

@@ -1,7 +1,7 @@
 //! The dual simplex.
 
-use crate::members::{Entering, Leaving, Member};
 use crate::simplex::Simplex;
+use pesp_basis::{Entering, Leaving, Member, ONE};
 use std::alloc::AllocError;
 
 /// After how many exchanges the inverse is built anew.
@@ -43,7 +43,7 @@ impl Simplex {
 
     /// Makes an exchange, where something is outside its range and something may enter.
     fn turn(&mut self) -> Result<SolveTurn, AllocError> {
-        let Some(leaving) = self.leaving() else {
+        let Some(leaving) = self.state.leaving(&self.columns, &self.lines) else {
             return Ok(SolveTurn::Best);
         };
         self.weigh(leaving.member)?;
@@ -69,7 +69,7 @@ impl Simplex {
             }
         }
         if let Member::Line(number) = leaving.member {
-            self.ray.push((number, leaving.signed(crate::fixed::ONE)))?;
+            self.ray.push((number, leaving.signed(ONE)))?;
         }
         Ok(())
     }
@@ -79,7 +79,7 @@ impl Simplex {
         if self.state.value < stop {
             return false;
         }
-        self.state.value = self.value_shown();
+        self.state.value = self.state.value_shown(&self.columns, &self.lines);
         self.state.value >= stop
     }
 

@@ -1,10 +1,7 @@
 //! The row of the tableau of what leaves.
 
-use crate::fixed::{ONE, by_whole, whole};
-use crate::inverse::{add_row, list_numbers, make_zeros};
-use crate::members::Member;
 use crate::simplex::Simplex;
-use crate::updates::change_row;
+use pesp_basis::{Member, ONE, add_row, by_whole, change_row, list_numbers, make_zeros, whole};
 use pesp_dual::Term;
 use std::alloc::AllocError;
 
@@ -57,25 +54,14 @@ impl Simplex {
         self.work = self.work.wrapping_add(work);
     }
 
-    /// Takes a tight line times a weight away from slacks.
-    fn take_line(&mut self, number: u32, weight: i64) {
-        let Some(line) = self.lines.get(number as usize) else {
-            return;
-        };
-        for term in &line.terms {
-            let part = by_whole(weight, term.coefficient);
-            self.alpha.gather(term.row, part.wrapping_neg());
-        }
-        self.work = self.work.wrapping_add(line.terms.len() as u64);
-    }
-
     /// Takes all tight lines with their weights away.
     fn take_lines(&mut self) {
-        for at in 0..self.listed.len() {
-            if let Some((place, weight)) = self.listed.get(at).copied()
-                && let Some(number) = self.state.tight.get(place as usize).copied()
+        for (place, weight) in &self.listed {
+            if let Some(number) = self.state.tight.get(*place as usize)
+                && let Some(line) = self.lines.get(*number as usize)
             {
-                self.take_line(number, weight);
+                self.alpha.take(&line.terms, *weight);
+                self.work = self.work.wrapping_add(line.terms.len() as u64);
             }
         }
     }

@@ -12,7 +12,7 @@ use Rattle.std.proofs.lemmas.List.Elements.{All-map}
 use Rattle.pesp_truth.specs.Trees.{Claim, EndLine, Shut, ByPropagation, IsShut}
 use Rattle.pesp_judges.specs.declared.refusal.Refusal.TheVariants.{NotPropagated}
 use Rattle.pesp_truth.proofs.Events.{any_count}
-use Rattle.pesp_support.specs.Supports.{Rows}
+use Rattle.pesp_truth.specs.Supports.{Rows}
 use Rattle.pesp_problem.specs.declared.path.Branch.{Branch}
 use Rattle.pesp_problem.specs.Pending.{pending, waiting}
 use Rattle.pesp_judges.specs.Propagations.{net_rows}

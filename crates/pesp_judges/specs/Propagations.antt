@@ -2,7 +2,7 @@
 use Rattle.std.specs.Prelude.{length}
 use Rattle.pesp_problem.specs.Timetables.{Pesp}
 use Rattle.pesp_problem.specs.Arcs.{net_of}
-use Rattle.pesp_support.specs.Supports.{Rows}
+use Rattle.pesp_truth.specs.Supports.{Rows}
 
 -- the net of an instance, between all its events
 abbrev pub net_rows : Pesp → Rows

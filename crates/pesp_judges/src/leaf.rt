@@ -66,14 +66,13 @@ fn judge_bound<P: Elements<Pair>>(
     pairs: P,
     line: u64,
     flows: &mut [i128],
-    taken: &mut [i128],
     rates: &mut [Rates],
 ) -> Option<Refusal>
     requires ranges { AreRanges checker.now.instance.now ranges.now }
     requires cycles { length ranges.now.offsets.items ≡ length checker.now.table.now }
     requires limits { ArePairLimits (P.elements pairs) }
     requires long { length flows.old ≡ length checker.now.instance.now.rows }
-    requires room { HasRoom checker.now.claim (length checker.now.instance.now.rows) (length taken.old) (length rates.old) }
+    requires room { HasRoom checker.now.claim (length checker.now.instance.now.rows) (length rates.old) }
     requires zeros { AreZeros flows.old }
     ensures verdict { (walks : List (List SignedRow)) (claim : trees.Claim)
         → AreNets (length checker.now.instance.now.rows) walks checker.now.table.now
@@ -90,7 +89,7 @@ fn judge_bound<P: Elements<Pair>>(
         return Some(Refusal::BoundInInfeasible { line });
     };
     let more = names_more(cycles, pairs);
-    let value = value_of(checker, ranges, pairs, more, true, flows, taken, rates);
+    let value = value_of(checker, ranges, pairs, more, true, flows, rates);
     if !reaches(value, scale_of(&checker.claim, more), least) {
         return Some(Refusal::LeafBelow { line });
     }
@@ -104,14 +103,13 @@ fn judge_nothing<P: Elements<Pair>>(
     pairs: P,
     line: u64,
     flows: &mut [i128],
-    taken: &mut [i128],
     rates: &mut [Rates],
 ) -> Option<Refusal>
     requires ranges { AreRanges checker.now.instance.now ranges.now }
     requires cycles { length ranges.now.offsets.items ≡ length checker.now.table.now }
     requires limits { ArePairLimits (P.elements pairs) }
     requires long { length flows.old ≡ length checker.now.instance.now.rows }
-    requires room { HasRoom checker.now.claim (length checker.now.instance.now.rows) (length taken.old) (length rates.old) }
+    requires room { HasRoom checker.now.claim (length checker.now.instance.now.rows) (length rates.old) }
     requires zeros { AreZeros flows.old }
     ensures verdict { (walks : List (List SignedRow)) (claim : trees.Claim)
         → AreNets (length checker.now.instance.now.rows) walks checker.now.table.now
@@ -125,7 +123,7 @@ fn judge_nothing<P: Elements<Pair>>(
         return Some(Refusal::NoSuch { line });
     }
     let more = names_more(cycles, pairs);
-    let value = value_of(checker, ranges, pairs, more, false, flows, taken, rates);
+    let value = value_of(checker, ranges, pairs, more, false, flows, rates);
     if !is_positive(value) {
         return Some(Refusal::NotEmpty { line });
     }
@@ -157,22 +155,21 @@ fn judge_gap(checker: &Checker<'_>, ranges: &Ranges, cycle: u32, line: u64) -> O
     None
 }
 
-/// What is wrong with a leaf at a node. The flows, one a row, are 0 before and after. Behind a front there are as many of what
-/// lemmas take, and as many rates; without one there may be none.
+/// What is wrong with a leaf at a node. The flows, one a row, are 0 before and after. Behind a front there are as many rates;
+/// without one there may be none.
 pub fn judge_leaf<P: Elements<Pair>>(
     checker: &Checker<'_>,
     ranges: &Ranges,
     leaf: LeafLine<P>,
     line: u64,
     flows: &mut [i128],
-    taken: &mut [i128],
     rates: &mut [Rates],
 ) -> Option<Refusal>
     requires ranges { AreRanges checker.now.instance.now ranges.now }
     requires cycles { length ranges.now.offsets.items ≡ length checker.now.table.now }
     requires limits { KeepsLeafLimits P.elements leaf }
     requires long { length flows.old ≡ length checker.now.instance.now.rows }
-    requires room { HasRoom checker.now.claim (length checker.now.instance.now.rows) (length taken.old) (length rates.old) }
+    requires room { HasRoom checker.now.claim (length checker.now.instance.now.rows) (length rates.old) }
     requires zeros { AreZeros flows.old }
     ensures verdict { (walks : List (List SignedRow)) (claim : trees.Claim)
         → AreNets (length checker.now.instance.now.rows) walks checker.now.table.now
@@ -182,10 +179,8 @@ pub fn judge_leaf<P: Elements<Pair>>(
     ensures zeros { AreZeros flows.new }
 {
     match leaf {
-        LeafLine::Bound(pairs) => judge_bound(checker, ranges, pairs, line, flows, taken, rates),
-        LeafLine::Nothing(pairs) => judge_nothing(
-            checker, ranges, pairs, line, flows, taken, rates,
-        ),
+        LeafLine::Bound(pairs) => judge_bound(checker, ranges, pairs, line, flows, rates),
+        LeafLine::Nothing(pairs) => judge_nothing(checker, ranges, pairs, line, flows, rates),
         LeafLine::Gap(cycle) => judge_gap(checker, ranges, cycle, line),
     }
 }

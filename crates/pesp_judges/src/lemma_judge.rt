@@ -48,7 +48,6 @@ pub struct LemmaJudge<'a> {
     front: Option<Marks>,
     arcs: Vec<Arc>,
     own: Vec<i64>,
-    taken: Vec<i128>,
     rates: Vec<Rates>,
     walk: Option<NodeWalk<'a>>,
     ghost rows: { All (λ pair. Names (length instance.now.rows) pair.cycle) fact.weights },
@@ -64,7 +63,6 @@ pub struct LemmaJudge<'a> {
     ghost light: { is_some walk ≡ true → AreSmallWeights own.items },
     ghost placed: { is_some walk ≡ true → (i : ℕ) → i < length own.items
         → number_at own.items i ≡ weight_at fact.weights i },
-    ghost much: { is_some walk ≡ true → length taken.items ≡ length instance.now.rows },
     ghost wide: { is_some walk ≡ true → length rates.items ≡ length instance.now.rows },
 }
 
@@ -110,7 +108,6 @@ impl<'a> LemmaJudge<'a> {
             front: None,
             arcs: Vec::new(alloc),
             own: Vec::new(alloc),
-            taken: Vec::new(alloc),
             rates: Vec::new(alloc),
             walk: None,
         })
@@ -198,7 +195,6 @@ impl<'a> LemmaJudge<'a> {
         self.front = Some(marks);
         self.arcs = self.instance.arcs(alloc)?;
         self.own = weights_by_row(alloc, rows, self.fact.weights())?;
-        self.taken = zeros(alloc, rows)?;
         self.rates = no_rates(alloc, rows)?;
         let ranges = root(alloc, self.instance, &self.table)?;
         self.walk = Some(NodeWalk::new(alloc, self.instance, ranges));
@@ -259,16 +255,7 @@ impl<'a> LemmaJudge<'a> {
             least: Some(self.least),
         });
         let checker = Checker::new(self.instance, &self.table, claim);
-        take_line(
-            alloc,
-            &checker,
-            walk,
-            said,
-            line,
-            working,
-            &mut self.taken,
-            &mut self.rates,
-        )
+        take_line(alloc, &checker, walk, said, line, working, &mut self.rates)
     }
 
     /// A line of the tree came, in this line of the text: what is wrong with it, or with the marked walks where it is the first.

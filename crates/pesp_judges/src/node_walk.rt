@@ -15,7 +15,7 @@ use crate::branch::{change_of, put_back};
 use crate::propagation::shuts;
 use pesp_leaves::{Ranges, take_part};
 use pesp_problem::{Branch, Cut, Instance, Side};
-use pesp_support::Support;
+use pesp_truth::Support;
 use std::alloc::{AllocError, Global};
 use std::marker::Model;
 

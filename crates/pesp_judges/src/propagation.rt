@@ -9,7 +9,7 @@ ghost use Rattle.pesp_judges.specs.Propagations.{net_rows};
 
 use pesp_leaves::Ranges;
 use pesp_problem::Instance;
-use pesp_support::Support;
+use pesp_truth::Support;
 
 /// Whether the rows support no family of sets of time differences without an empty set, under the slack ranges of a node.
 pub fn shuts(instance: &Instance, pass: &mut Support, ranges: &Ranges) -> bool

@@ -69,7 +69,6 @@ fn take_leaf<P: Elements<Pair>>(
     leaf: LeafLine<P>,
     line: u64,
     flows: &mut [i128],
-    taken: &mut [i128],
     rates: &mut [Rates],
 ) -> Option<Refusal>
     requires problem { walk.old.problem ≡ checker.now.instance.now }
@@ -77,7 +76,7 @@ fn take_leaf<P: Elements<Pair>>(
     requires open { walk.old.nodes ≢ [] }
     requires limits { KeepsLeafLimits P.elements leaf }
     requires long { length flows.old ≡ length checker.now.instance.now.rows }
-    requires room { HasRoom checker.now.claim (length checker.now.instance.now.rows) (length taken.old) (length rates.old) }
+    requires room { HasRoom checker.now.claim (length checker.now.instance.now.rows) (length rates.old) }
     requires zeros { AreZeros flows.old }
     ensures problem { walk.new.problem ≡ checker.now.instance.now }
     ensures cycles { walk.new.cycles ≡ length checker.now.table.now }
@@ -89,7 +88,7 @@ fn take_leaf<P: Elements<Pair>>(
         (walk.new.nodes ≡ after (EndLine (leaf_said P.elements leaf)) walk.old.nodes) }
     ensures zeros { AreZeros flows.new }
 {
-    let found = judge_leaf(checker, walk.ranges(), leaf, line, flows, taken, rates);
+    let found = judge_leaf(checker, walk.ranges(), leaf, line, flows, rates);
     walk.leaf();
     found
 }
@@ -127,7 +126,6 @@ pub fn take_line<P: Elements<Pair>>(
     said: SaidLine<P>,
     line: u64,
     flows: &mut [i128],
-    taken: &mut [i128],
     rates: &mut [Rates],
 ) -> Result<Option<Refusal>, AllocError>
     requires problem { walk.old.problem ≡ checker.now.instance.now }
@@ -135,7 +133,7 @@ pub fn take_line<P: Elements<Pair>>(
     requires open { walk.old.nodes ≢ [] }
     requires limits { KeepsSaidLimits P.elements said }
     requires long { length flows.old ≡ length checker.now.instance.now.rows }
-    requires room { HasRoom checker.now.claim (length checker.now.instance.now.rows) (length taken.old) (length rates.old) }
+    requires room { HasRoom checker.now.claim (length checker.now.instance.now.rows) (length rates.old) }
     requires zeros { AreZeros flows.old }
     ensures problem { walk.new.problem ≡ checker.now.instance.now }
     ensures cycles { walk.new.cycles ≡ length checker.now.table.now }
@@ -149,7 +147,7 @@ pub fn take_line<P: Elements<Pair>>(
 {
     match said {
         SaidLine::Branch(cut) => take_branch(checker, walk, cut, line),
-        SaidLine::Leaf(leaf) => Ok(take_leaf(checker, walk, leaf, line, flows, taken, rates)),
+        SaidLine::Leaf(leaf) => Ok(take_leaf(checker, walk, leaf, line, flows, rates)),
         SaidLine::Propagated => take_propagated(alloc, walk, line),
     }
 }

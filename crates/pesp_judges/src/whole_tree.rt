@@ -40,14 +40,13 @@ pub fn said_by(tree_line: &TreeLine) -> SaidLine<&[Pair]>
 }
 
 /// The first fault of a tree at the root; its lines begin with the line `first`. The flows, one a row, are 0 before; behind a
-/// front there are as many of what lemmas take, and as many rates.
+/// front there are as many rates.
 pub fn judge_tree(
     alloc: Global,
     checker: &Checker<'_>,
     lines: &[TreeLine],
     first: u64,
     flows: &mut [i128],
-    taken: &mut [i128],
     rates: &mut [Rates],
 ) -> Result<Option<Refusal>, AllocError>
     requires lines { All KeepsLineLimits lines.now }
@@ -55,7 +54,7 @@ pub fn judge_tree(
     requires first { first < 2 ^ 62 }
     requires few { length lines.now ≤ MOST_LINES }
     requires long { length flows.old ≡ length checker.now.instance.now.rows }
-    requires room { HasRoom checker.now.claim (length checker.now.instance.now.rows) (length taken.old) (length rates.old) }
+    requires room { HasRoom checker.now.claim (length checker.now.instance.now.rows) (length rates.old) }
     requires zeros { AreZeros flows.old }
     ensures { IfOk result (λ found. (walks : List (List SignedRow)) (claim : Claim)
         → AreNets (length checker.now.instance.now.rows) walks checker.now.table.now
@@ -77,7 +76,6 @@ pub fn judge_tree(
             said_by(tree_line),
             line,
             flows,
-            taken,
             rates,
         )?;
         if found.is_some() {

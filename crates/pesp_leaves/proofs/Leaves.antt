@@ -13,12 +13,13 @@ use Rattle.pesp_problem.specs.Arcs.{Net, net_of, arcs_of, arc_at, over_arcs}
 use Rattle.pesp_problem.specs.Nodes.{Node, cycle_at, offset_range, offsets_left, offset_part, weight_of, slack_part, slack_range, flow, leaf_value}
 use Rattle.pesp_problem.specs.Ranges.{lesser, left_of}
 use Rattle.pesp_problem.specs.Nets.{AreNets, nets_at, AreNetCounts}
-use Rattle.pesp_leaves.specs.Flows.{number_at, flow_term, flow_sum}
+use Rattle.pesp_problem.specs.Terms.{number_at}
+use Rattle.pesp_leaves.specs.Flows.{flow_term, flow_sum}
 use Rattle.pesp_leaves.specs.Ranges.{idle_part}
 use Rattle.pesp_problem.proofs.Integers.{sum_below-same, sum_below-sub, sum_below-zero}
+use Rattle.pesp_problem.proofs.Flowing.{nets_read}
 use Rattle.pesp_problem.specs.declared.nets.NetCount.{NetCount}
 use Rattle.pesp_leaves.proofs.Arcs.{arcs_long}
-use Rattle.pesp_leaves.proofs.Flowing.{nets_read}
 
 -- ---- what the rows add
 

@@ -17,7 +17,8 @@ use Rattle.pesp_problem.specs.declared.nets.NetCount.{NetCount}
 use Rattle.pesp_problem.specs.Nets.{AreZeros, nets_at}
 use Rattle.pesp_leaves.specs.Offsets.{AreSlackRanges}
 use Rattle.pesp_problem.specs.Ranges.{lesser}
-use Rattle.pesp_leaves.specs.Flows.{number_at, entries_at, flow_term, flow_sum, AreSmallFlows, ArePairsOf}
+use Rattle.pesp_problem.specs.Terms.{number_at, AreSmallFlows}
+use Rattle.pesp_leaves.specs.Flows.{entries_at, flow_term, flow_sum, ArePairsOf}
 use Rattle.pesp_problem.proofs.Counts.{eq-false}
 use Rattle.pesp_problem.proofs.LeafValues.{weight_small}
 use Rattle.pesp_leaves.proofs.Flowing.{pairs_apart}

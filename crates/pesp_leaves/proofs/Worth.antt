@@ -9,13 +9,13 @@ use Rattle.pesp_problem.specs.declared.pair.Pair.{Pair}
 use Rattle.pesp_problem.specs.Timetables.{Pesp}
 use Rattle.pesp_problem.specs.Arcs.{Net, arc_at, arcs_of, net_of, over_arcs}
 use Rattle.pesp_problem.specs.Nodes.{Node, slack_range, flow, offset_part}
-use Rattle.pesp_problem.proofs.Integers.{sum_below-same, sum_below-sub}
+use Rattle.pesp_problem.proofs.Integers.{sum_below-same}
+use Rattle.pesp_problem.specs.Sums.{sum_below}
 use Rattle.pesp_problem.specs.Marked.{least_gain}
 use Rattle.pesp_problem.specs.Sharp.{Multipliers, over_multiples, rates}
 use Rattle.pesp_problem.specs.declared.rates.Rates.{Rates}
 use Rattle.pesp_problem.specs.Rates.{rates_at, rate_of}
-use Rattle.pesp_problem.specs.Terms.{number_at}
-use Rattle.pesp_problem.proofs.Small.{less}
+use Rattle.pesp_problem.specs.Terms.{number_at, lesser_excess}
 use Rattle.pesp_truth.specs.Marks.{Marks}
 use Rattle.pesp_truth.specs.Named.{AreNamed, IsNamed, of_cycles, of_walks, names_more, scale_of, of_lemmas, multipliers}
 use Rattle.pesp_truth.proofs.Named.{at_most}
@@ -27,7 +27,7 @@ use Rattle.pesp_truth.specs.LemmaLeaves.{LemmaMultiple, over_lemmas, taken, leas
 use Rattle.pesp_truth.specs.Trees.{value_by}
 use Rattle.pesp_truth.proofs.LemmaLeaves.{excess_at_low, excess_at_high}
 use Rattle.pesp_leaves.specs.Taken.{floor_of}
-use Rattle.pesp_leaves.specs.Terms.{unit_cost_left, row_term, rows_sum}
+use Rattle.pesp_leaves.specs.Terms.{lower_sum, unit_cost_left, rows_sum}
 
 -- ---- what the calls want of the pairs
 
@@ -85,10 +85,11 @@ cycle_pairs cycles walks facts others pairs e named limits = are_pairs cycles wa
 
 -- the working numbers are those of the multipliers, the lemmas and the weights
 pub record AreOf (n : Net) (table : List (List SignedRow)) (node : Node) (m : Multipliers) (facts : List LemmaMultiple) (own : ℕ → ℤ)
-    (weights flows numbers : List ℤ) (all : List Rates) : Type 0 where
+    (weights made flows : List ℤ) (all : List Rates) : Type 0 where
+  pub long : length node.slacks ≡ length n.arcs
   pub weights_are : (i : ℕ) → i < length n.arcs → number_at weights i ≡ own i
-  pub flows_are : (i : ℕ) → i < length n.arcs → number_at flows i ≡ flow table m.pairs i
-  pub taken_are : (i : ℕ) → i < length n.arcs → number_at numbers i ≡ taken facts i
+  pub made_are : (i : ℕ) → i < length n.arcs → number_at made i ≡ flow table m.pairs i
+  pub flows_are : (i : ℕ) → i < length n.arcs → number_at flows i ≡ number_at made i +ℤ taken facts i
   pub rates_are : (i : ℕ) (flipped : Bool) → i < length n.arcs → rate_of flipped (rates_at all i) ≡ rates n node m flipped i
 
 lesser_of : {a b c d : ℤ} → a ≡ c → b ≡ d → int_min a b ≡ int_min c d
@@ -97,51 +98,51 @@ lesser_of h k = cc
 same_end : (a b r s y w : ℤ) → a ≡ b → r ≡ s → a *ℤ y -ℤ r *ℤ w ≡ b *ℤ y -ℤ s *ℤ w
 same_end a b r s y w h k = cc
 
+less_both : (a b c d : ℤ) → d ≡ b +ℤ c → a -ℤ d ≡ a -ℤ b -ℤ c
+less_both a b c d h = omega (arith, ints, h)
+
+same_sum : {a b c d e s t u v w : ℤ} → a ≡ s → b ≡ t → c ≡ u → d ≡ v → e ≡ w → a -ℤ b +ℤ c +ℤ d +ℤ e ≡ s -ℤ t +ℤ u +ℤ v +ℤ w
+same_sum f g h i j = cc
+
 module _ (n : Net) (table : List (List SignedRow)) (node : Node) (m : Multipliers) (facts : List LemmaMultiple) (own : ℕ → ℤ)
-    (weighted : Bool) (weights flows numbers : List ℤ) (all : List Rates)
-    (are : AreOf n table node m facts own weights flows numbers all) where
+    (weighted : Bool) (weights made flows : List ℤ) (all : List Rates)
+    (are : AreOf n table node m facts own weights made flows all) where
   abbrev chosen : ℕ → ℤ
   chosen i = if weighted then own i else pos 0
 
-  left_is : (i : ℕ) → i < length n.arcs
-      → unit_cost_left m.scale weighted (number_at weights i) (number_at flows i) (number_at numbers i)
+  left_is : (i : ℕ) → i < length n.arcs → unit_cost_left m.scale weighted (number_at weights i) (number_at flows i)
       ≡ pos m.scale *ℤ chosen i -ℤ flow table m.pairs i -ℤ taken facts i
   left_is i l =
-      ap (λ z. unit_cost_left m.scale weighted z (number_at flows i) (number_at numbers i)) (are.weights_are i l)
-      ∙ ap (λ z. unit_cost_left m.scale weighted (own i) z (number_at numbers i)) (are.flows_are i l)
-      ∙ ap (λ z. unit_cost_left m.scale weighted (own i) (flow table m.pairs i) z) (are.taken_are i l)
+      ap (λ z. unit_cost_left m.scale weighted z (number_at flows i)) (are.weights_are i l)
+      ∙ less_both _ (flow table m.pairs i) (taken facts i) (number_at flows i)
+      (are.flows_are i l ∙ ap (λ z. z +ℤ taken facts i) (are.made_are i l))
 
-  term_is : (i : ℕ) → i < length n.arcs → row_term
-      (unit_cost_left m.scale weighted (number_at weights i) (number_at flows i) (number_at numbers i)) (slack_range node.slacks i)
-      (rates_at all i) (number_at flows i) (arc_at n.arcs i).lower
-      ≡ least_lemma_excess n table node m facts chosen i -ℤ flow table m.pairs i *ℤ (arc_at n.arcs i).lower
-  term_is i l = less (lesser_of
+  term_is : (i : ℕ) → i < length n.arcs → lesser_excess
+      (unit_cost_left m.scale weighted (number_at weights i) (number_at flows i)) (slack_range node.slacks i) (rates_at all i)
+      ≡ least_lemma_excess n table node m facts chosen i
+  term_is i l = lesser_of
       (same_end _ _ _ _ _ _ (left_is i l) (are.rates_are i true l) ∙ sym (excess_at_low n table node m facts chosen i))
-      (same_end _ _ _ _ _ _ (left_is i l) (are.rates_are i false l) ∙ sym (excess_at_high n table node m facts chosen i)))
-      (ap (λ (z : ℤ). z *ℤ (arc_at n.arcs i).lower) (are.flows_are i l))
+      (same_end _ _ _ _ _ _ (left_is i l) (are.rates_are i false l) ∙ sym (excess_at_high n table node m facts chosen i))
 
-  rows_are : rows_sum n.arcs node.slacks weights weighted m.scale flows numbers all
-      ≡ over_arcs n.arcs (least_lemma_excess n table node m facts chosen) -ℤ over_arcs n.arcs
-      (λ i. flow table m.pairs i *ℤ (arc_at n.arcs i).lower)
-  rows_are = sum_below-same (length n.arcs) _ (λ i.
-      least_lemma_excess n table node m facts chosen i -ℤ flow table m.pairs i *ℤ (arc_at n.arcs i).lower) term_is
-      ∙ sum_below-sub (length n.arcs) (least_lemma_excess n table node m facts chosen)
-      (λ i. flow table m.pairs i *ℤ (arc_at n.arcs i).lower)
+  rows_are : rows_sum node.slacks weights weighted m.scale flows all ≡ over_arcs n.arcs (least_lemma_excess n table node m facts chosen)
+  rows_are = ap (λ (k : ℕ). sum_below k (λ i. lesser_excess
+      (unit_cost_left m.scale weighted (number_at weights i) (number_at flows i)) (slack_range node.slacks i) (rates_at all i))) are.long
+      ∙ sum_below-same (length n.arcs) _ (least_lemma_excess n table node m facts chosen) term_is
 
-  sum_of : (t z l g f e r : ℤ) → r ≡ e -ℤ l → ((t *ℤ z) -ℤ l +ℤ g +ℤ f) +ℤ e ≡ (t *ℤ z) +ℤ g +ℤ f +ℤ r
-  sum_of t z l g f e r h = omega (arith, ints)
+  lowers_are : lower_sum n.arcs made ≡ over_arcs n.arcs (λ i. flow table m.pairs i *ℤ (arc_at n.arcs i).lower)
+  lowers_are = sum_below-same (length n.arcs) _ (λ i. flow table m.pairs i *ℤ (arc_at n.arcs i).lower)
+      (λ i l. ap (λ z. z *ℤ (arc_at n.arcs i).lower) (are.made_are i l))
 
-  -- the period times the offsets, the gains, the least sums and the rows
+  -- the period times the offsets less the lower bounds, and the gains, the least sums and the rows
   pub value_is : (z gains floors : ℤ) → offset_part n table node m.pairs ≡ Some z
       → gains ≡ over_multiples m.multiples (λ walk. pos (least_gain n node.slacks walk))
       → floors ≡ over_lemmas facts (λ fact. fact.least)
       → lemma_value n table node m facts chosen ≡ Some
-      (pos n.period *ℤ z +ℤ gains +ℤ floors +ℤ rows_sum n.arcs node.slacks weights weighted m.scale flows numbers all)
+      (pos n.period *ℤ z -ℤ lower_sum n.arcs made +ℤ gains +ℤ floors +ℤ rows_sum node.slacks weights weighted m.scale flows all)
   value_is z gains floors o g f =
-      let rows = rows_sum n.arcs node.slacks weights weighted m.scale flows numbers all in
-      ap (option_map _) o ∙ ap Some (sum_of (pos n.period) z _ _ _ _ _ rows_are
-      ∙ ap (λ (x : ℤ). pos n.period *ℤ z +ℤ x +ℤ over_lemmas facts (λ fact. fact.least) +ℤ rows) (sym g)
-      ∙ ap (λ (x : ℤ). pos n.period *ℤ z +ℤ gains +ℤ x +ℤ rows) (sym f))
+      let offsets = pos n.period *ℤ z in
+      let same : offsets ≡ offsets = refl in
+      ap (option_map _) o ∙ ap Some (same_sum same (sym lowers_are) (sym g) (sym f) (sym rows_are))
 
 -- ---- as the code finds them, by so many cycles, and cycles and walks, and a scale
 
@@ -177,16 +178,17 @@ module _ (p : Pesp) (table : List (List SignedRow)) (node : Node) (marks : Marks
       go None e f = refl
       go (Some z) e f = cc
 
-  pub whole_value : (weights flows numbers : List ℤ) (all : List Rates) (offsets gains floors rows value : ℤ)
-      → AreOf (net_of p) table node (at_scale cycles others marks pairs scale) (of_lemmas others facts pairs) own weights flows numbers all
+  pub whole_value : (weights made flows : List ℤ) (all : List Rates) (offsets lowers gains floors rows value : ℤ)
+      → AreOf (net_of p) table node (at_scale cycles others marks pairs scale) (of_lemmas others facts pairs) own weights made flows all
       → ◌≡◌ {A = Option ℤ} (Some offsets) (option_map (λ z. pos p.period *ℤ z)
       (offset_part (net_of p) table node (of_cycles cycles (of_cycles others pairs))))
+      → lowers ≡ lower_sum (arcs_of p) made
       → gains ≡ gains_of (net_of p) node.slacks cycles marks.walks (of_cycles others pairs)
       → floors ≡ floor_of others facts pairs
-      → rows ≡ rows_sum (arcs_of p) node.slacks weights weighted scale flows numbers all
-      → value ≡ offsets +ℤ gains +ℤ floors +ℤ rows
+      → rows ≡ rows_sum node.slacks weights weighted scale flows all
+      → value ≡ offsets -ℤ lowers +ℤ gains +ℤ floors +ℤ rows
       → ◌≡◌ {A = Option ℤ} (Some value) (value_by marks facts (net_of p) table node pairs under)
-  whole_value weights flows numbers all offsets gains floors rows value are part g f r v =
+  whole_value weights made flows all offsets lowers gains floors rows value are part low g f r v =
       go (offset_part (net_of p) table node (of_cycles cycles (of_cycles others pairs))) refl part ∙ there
     where
       go : (o : Option ℤ) → offset_part (net_of p) table node (of_cycles cycles (of_cycles others pairs)) ≡ o
@@ -196,8 +198,8 @@ module _ (p : Pesp) (table : List (List SignedRow)) (node : Node) (marks : Marks
       go None is e = cc
       go (Some z) is e =
           let same : offsets ≡ pos p.period *ℤ z = cc in
-          let sum : value ≡ pos p.period *ℤ z +ℤ gains +ℤ floors
-          +ℤ rows_sum (arcs_of p) node.slacks weights weighted scale flows numbers all = v
-          ∙ ap (λ x. x +ℤ gains +ℤ floors +ℤ rows) same ∙ ap (λ x. pos p.period *ℤ z +ℤ gains +ℤ floors +ℤ x) r in
-          ap Some sum ∙ sym (value_is (net_of p) table node (at_scale cycles others marks pairs scale) (of_lemmas others facts pairs)
-          own weighted weights flows numbers all are z gains floors is g f)
+          let whole : gains ≡ gains = refl in
+          let least : floors ≡ floors = refl in
+          ap Some (v ∙ same_sum same low whole least r) ∙ sym (value_is (net_of p) table node
+          (at_scale cycles others marks pairs scale) (of_lemmas others facts pairs)
+          own weighted weights made flows all are z gains floors is g f)

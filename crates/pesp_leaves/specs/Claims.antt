@@ -59,7 +59,7 @@ scaled_by (Plain least) n table node pairs weighted = leaf_value n table node pa
 scaled_by (Behind marks facts goal) n table node pairs weighted =
     value_by marks facts n table node pairs (λ i. if weighted then goal.weights i else pos 0)
 
--- there are numbers for what leaves behind a front add up, one a row
-abbrev pub HasRoom : ToldClaim → ℕ → ℕ → ℕ → Type 0
-HasRoom (TellsPlain least) rows taken rates = Unit {0}
-HasRoom (TellsBehind s) rows taken rates = (taken ≡ rows) × (rates ≡ rows)
+-- there are rates for leaves behind a front, one a row
+abbrev pub HasRoom : ToldClaim → ℕ → ℕ → Type 0
+HasRoom (TellsPlain least) rows rates = Unit {0}
+HasRoom (TellsBehind s) rows rates = rates ≡ rows

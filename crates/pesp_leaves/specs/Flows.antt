@@ -1,5 +1,5 @@
 -- Flows on rows, and what they change of a leaf's value.
-use Rattle.std.specs.Prelude.{ℕ, ◌<◌, ◌≤◌, ◌^◌, List, length, slice_index_or, ℤ, pos, ◌-ℤ◌, ◌*ℤ◌, ◌-◌, unsigned_abs, if◌then◌else◌, ◌==◌, Bool, All, count_by, sum_by}
+use Rattle.std.specs.Prelude.{ℕ, ◌≤◌, List, length, ℤ, ◌-ℤ◌, ◌*ℤ◌, ◌-◌, unsigned_abs, ◌==◌, Bool, All, count_by, sum_by}
 use Rattle.pesp_problem.specs.declared.limits.TheConstants.{MOST_CYCLES, MOST_MULTIPLIER}
 use Rattle.pesp_problem.specs.declared.pair.Pair.{Pair}
 use Rattle.pesp_problem.specs.declared.arc.Arc.{Arc}
@@ -8,20 +8,9 @@ use Rattle.pesp_problem.specs.Arcs.{arc_at}
 use Rattle.pesp_problem.specs.Walks.{Names}
 use Rattle.pesp_problem.specs.Nodes.{slack_range, weight_of}
 use Rattle.pesp_problem.specs.declared.nets.NetCount.{NetCount}
-use Rattle.pesp_problem.specs.Nets.{sum_of, nets_at}
+use Rattle.pesp_problem.specs.Nets.{nets_at}
 use Rattle.pesp_problem.specs.Ranges.{lesser}
-
--- the entries at place i, added up
-abbrev pub count_of : List NetCount → ℕ → ℤ
-count_of counts i = sum_of (λ place count. if place == i then count else pos 0) counts
-
--- the number at a place, 0 past the end
-abbrev pub number_at : List ℤ → ℕ → ℤ
-number_at numbers i = slice_index_or numbers i (pos 0)
-
--- flows that a leaf can have
-abbrev pub AreSmallFlows : List ℤ → Type 0
-AreSmallFlows flows = (i : ℕ) → i < length flows → unsigned_abs (number_at flows i) ≤ 10 ^ 24
+use Rattle.pesp_problem.specs.Terms.{number_at}
 
 -- pairs of so many cycles, with multipliers within their limit
 abbrev pub ArePairsOf : ℕ → List Pair → Type 0

@@ -1,5 +1,5 @@
--- What the lemmas of pairs add to a leaf, and working numbers of it: what they take of each row.
-use Rattle.std.specs.Prelude.{◌≡◌, ℕ, ◌<◌, ◌≤◌, ◌*◌, ◌^◌, List, length, ℤ, pos, unsigned_abs, All}
+-- What the lemmas of pairs add to a leaf, and what they take of each row.
+use Rattle.std.specs.Prelude.{ℕ, ◌<◌, ◌≤◌, ◌+◌, ◌*◌, ◌^◌, List, length, ℤ, unsigned_abs, All}
 use Rattle.pesp_problem.specs.declared.limits.TheConstants.{MOST_MULTIPLIER}
 use Rattle.pesp_problem.specs.declared.pair.Pair.{Pair}
 use Rattle.pesp_problem.specs.Walks.{Names}
@@ -20,13 +20,9 @@ taken_of others facts pairs i = taken (of_lemmas others facts pairs) i
 abbrev pub HaveRows : ℕ → List Lemma → Type 0
 HaveRows rows facts = All (λ fact. All (λ pair. Names rows pair.cycle) fact.weights) facts
 
--- the numbers are small enough to go on with, where so many lemmas were added
-abbrev pub AreSmallTaken : ℕ → List ℤ → Type 0
-AreSmallTaken lemmas numbers = (i : ℕ) → i < length numbers → unsigned_abs (number_at numbers i) ≤ lemmas * 10 ^ 24
-
--- nothing is taken
-abbrev pub AreNoneTaken : List ℤ → Type 0
-AreNoneTaken numbers = (i : ℕ) → i < length numbers → number_at numbers i ≡ pos 0
+-- flows that a leaf can have, where what so many lemmas take was added to them
+abbrev pub AreFlowsWith : ℕ → List ℤ → Type 0
+AreFlowsWith lemmas flows = (i : ℕ) → i < length flows → unsigned_abs (number_at flows i) ≤ 10 ^ 24 + lemmas * 10 ^ 24
 
 -- weights that a lemma may have
 abbrev pub AreSmallWeights : List ℤ → Type 0

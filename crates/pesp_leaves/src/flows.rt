@@ -1,48 +1,22 @@
 //! Flows: for each row, the sum over a leaf's pairs of the multiplier times the net count.
 
-ghost use Rattle.std.specs.Prelude.{◌≡◌, ℕ, ◌+◌, ◌*◌, ◌^◌, ◌<◌, ◌≤◌, List, length, pos, ◌+ℤ◌, ◌-ℤ◌, ◌*ℤ◌, unsigned_abs, All, count_by, ◌==◌};
-ghost use Rattle.pesp_problem.specs.declared.limits.TheConstants.{MOST_BOUND, MOST_MULTIPLIER, MOST_PERIOD, MOST_SIGNED_ROWS, MOST_WEIGHT};
+ghost use Rattle.std.specs.Prelude.{◌≡◌, ℕ, ◌*◌, ◌^◌, ◌<◌, ◌≤◌, List, length, pos, ◌+ℤ◌, ◌-ℤ◌, ◌*ℤ◌, unsigned_abs, All, count_by, ◌==◌};
+ghost use Rattle.pesp_problem.specs.declared.limits.TheConstants.{MOST_BOUND, MOST_PERIOD, MOST_WEIGHT};
 ghost use Rattle.pesp_problem.specs.declared.row.SignedRow.{SignedRow};
 ghost use Rattle.pesp_problem.specs.Arcs.{arcs_of, arc_at};
 ghost use Rattle.pesp_problem.specs.Limits.{KeepsLimits};
-ghost use Rattle.pesp_problem.specs.Nodes.{weight_of, slack_range, flow};
+ghost use Rattle.pesp_problem.specs.Nodes.{weight_of, flow};
 ghost use Rattle.pesp_problem.specs.Nets.{AreSmallCounts, AreZeros, AreNets};
 ghost use Rattle.pesp_leaves.specs.Offsets.{AreSlackRanges};
 ghost use Rattle.pesp_problem.specs.Ranges.{lesser};
-ghost use Rattle.pesp_leaves.specs.Flows.{count_of, number_at, AreSmallFlows, ArePairsOf, flow_term, flow_sum, entries_at};
+ghost use Rattle.pesp_problem.specs.Terms.{number_at, AreSmallFlows};
+ghost use Rattle.pesp_leaves.specs.Flows.{ArePairsOf, flow_term, flow_sum, entries_at};
 
 use crate::elements::Elements;
 use crate::nets::take;
 use crate::rows::arc_at;
 use pesp_problem::exact::{minus, plus, times};
-use pesp_problem::{Arc, Instance, NetCount, Nets, Pair};
-
-/// A multiplier times a net count.
-fn product(mult: i64, count: i64) -> i128
-    requires mult { unsigned_abs mult ≤ MOST_MULTIPLIER }
-    requires count { unsigned_abs count ≤ MOST_SIGNED_ROWS }
-    ensures value { result ≡ mult *ℤ count }
-    ensures size { unsigned_abs result ≤ 10 ^ 19 }
-{
-    times(i128::from(mult), i128::from(count))
-}
-
-/// Adds a multiplier times each net count to the flow of its row.
-fn add_flow(flows: &mut [i128], counts: &[NetCount], mult: i64)
-    requires counts { AreSmallCounts (length flows.old) counts.now }
-    requires mult { unsigned_abs mult ≤ MOST_MULTIPLIER }
-    requires small { AreSmallFlows flows.old }
-    ensures sum { (i : ℕ) → i < length flows.old
-        → number_at flows.new i ≡ number_at flows.old i +ℤ mult *ℤ count_of counts.now i }
-    ensures size { (i : ℕ) → i < length flows.old
-        → unsigned_abs (number_at flows.new i) ≤ unsigned_abs (number_at flows.old i) + 10 ^ 19 }
-{
-    for net in counts {
-        let at = net.place as usize;
-        let flow = plus(flows[at], product(mult, net.count));
-        flows[at] = flow;
-    }
-}
+use pesp_problem::{Arc, Instance, NetCount, Nets, Pair, add_flow};
 
 /// Makes the flows of the pairs out of flows that are 0.
 pub fn add_flows<P: Elements<Pair>>(flows: &mut [i128], table: &[Nets], pairs: P)

@@ -1,12 +1,12 @@
-//! What the rows of a leaf add to its value, by their weights, flows and rates, and by what lemmas take of them.
+//! What the rows of a leaf add to its value, by their weights, flows and rates.
 
 ghost use Rattle.std.specs.Prelude.{◌≡◌, ℕ, ◌*◌, ◌^◌, ◌<◌, ◌≤◌, length, pos, ◌-ℤ◌, ◌*ℤ◌, unsigned_abs, if◌then◌else◌};
-ghost use Rattle.pesp_problem.specs.declared.limits.TheConstants.{MOST_LOWER, MOST_MULTIPLIER, MOST_PERIOD};
+ghost use Rattle.pesp_problem.specs.declared.limits.TheConstants.{MOST_LOWER, MOST_MULTIPLIER, MOST_PERIOD, MOST_ROWS};
 ghost use Rattle.pesp_problem.specs.Ranges.{AreSlackEnds};
 ghost use Rattle.pesp_problem.specs.Rates.{AreSmallRates};
 ghost use Rattle.pesp_problem.specs.Terms.{lesser_excess, AreSmallArcs, AreSmallFlows};
-ghost use Rattle.pesp_leaves.specs.Taken.{AreSmallTaken, AreSmallWeights};
-ghost use Rattle.pesp_leaves.specs.Terms.{row_term, rows_sum};
+ghost use Rattle.pesp_leaves.specs.Taken.{AreFlowsWith, AreSmallWeights};
+ghost use Rattle.pesp_leaves.specs.Terms.{lower_sum, rows_sum};
 
 use pesp_problem::exact::{minus, plus, times};
 use pesp_problem::{Arc, Rates};
@@ -25,18 +25,17 @@ fn scaled_weight(weight: i64, weighted: bool, scale: u32) -> i128
     }
 }
 
-/// What a unit of a row's slack costs beyond its flow and what lemmas take.
-fn left_at(scaled: i128, flow: i128, taken: i128) -> i128
+/// What a unit of a row's slack costs beyond its flow.
+fn left_at(scaled: i128, flow: i128) -> i128
     requires scaled { unsigned_abs scaled ≤ 10 ^ 18 }
-    requires flow { unsigned_abs flow ≤ 10 ^ 24 }
-    requires taken { unsigned_abs taken ≤ 10 ^ 29 }
-    ensures value { result ≡ scaled -ℤ flow -ℤ taken }
+    requires flow { unsigned_abs flow ≤ 100001 * 10 ^ 24 }
+    ensures value { result ≡ scaled -ℤ flow }
     ensures size { unsigned_abs result ≤ 11 * 10 ^ 28 }
 {
-    minus(minus(scaled, flow), taken)
+    minus(scaled, flow)
 }
 
-/// What a slack at one end of its range costs beyond the flow, the lemmas and the gains.
+/// What a slack at one end of its range costs beyond the flow and the gains.
 fn excess(left: i128, slack: u32, rate: i128, width: i128) -> i128
     requires left { unsigned_abs left ≤ 11 * 10 ^ 28 }
     requires slack { slack ≤ MOST_PERIOD }
@@ -74,64 +73,60 @@ fn lesser_excess(left: i128, range: (u32, u32), rates: Rates) -> i128
     low.min(high)
 }
 
-/// A flow times a lower bound.
+/// A flow times a lower bound. Many rows have no flow.
 fn lower_part(flow: i128, lower: i64) -> i128
     requires flow { unsigned_abs flow ≤ 10 ^ 24 }
     requires lower { unsigned_abs lower ≤ MOST_LOWER }
     ensures value { result ≡ flow *ℤ lower }
     ensures size { unsigned_abs result ≤ 2 * 10 ^ 30 }
 {
+    if flow == 0 {
+        return 0;
+    }
     times(flow, i128::from(lower))
 }
 
-/// What a row adds: the lesser of what its slack costs at the two ends of its range, less its flow times its lower bound.
-fn row_term(left: i128, range: (u32, u32), rates: Rates, flow: i128, lower: i64) -> i128
-    requires left { unsigned_abs left ≤ 11 * 10 ^ 28 }
-    requires low { range.0 ≤ MOST_PERIOD }
-    requires high { range.1 ≤ MOST_PERIOD }
-    requires plain { unsigned_abs rates.plain ≤ 10 ^ 28 }
-    requires flipped { unsigned_abs rates.flipped ≤ 10 ^ 28 }
-    requires flow { unsigned_abs flow ≤ 10 ^ 24 }
-    requires lower { unsigned_abs lower ≤ MOST_LOWER }
-    ensures value { result ≡ row_term left range rates flow lower }
-    ensures size { unsigned_abs result ≤ 13 * 10 ^ 32 }
+/// The sum over all rows of flow times lower bound.
+pub fn lower_sum(arcs: &[Arc], flows: &[i128]) -> i128
+    requires arcs { AreSmallArcs arcs.now }
+    requires flows { length flows.now ≡ length arcs.now }
+    requires small { AreSmallFlows flows.now }
+    ensures value { result ≡ lower_sum arcs.now flows.now }
+    ensures size { unsigned_abs result ≤ 2 * 10 ^ 35 }
 {
-    minus(lesser_excess(left, range, rates), lower_part(flow, lower))
+    let mut sum = 0;
+    for i in 0..arcs.len() {
+        sum = plus(sum, lower_part(flows[i], arcs[i].lower));
+    }
+    sum
 }
 
-/// What all rows add to the value of a leaf.
+/// What the slacks of all rows cost at least beyond the flows and the gains.
 pub fn rows_sum(
-    arcs: &[Arc],
     slacks: &[(u32, u32)],
     weights: &[i64],
     weighted: bool,
     scale: u32,
     flows: &[i128],
-    taken: &[i128],
     rates: &[Rates],
 ) -> i128
-    requires arcs { AreSmallArcs arcs.now }
     requires slacks { AreSlackEnds slacks.now }
-    requires ranges { length slacks.now ≡ length arcs.now }
-    requires weights { length weights.now ≡ length arcs.now }
-    requires flows { length flows.now ≡ length arcs.now }
-    requires taken { length taken.now ≡ length arcs.now }
-    requires rates { length rates.now ≡ length arcs.now }
+    requires few { length slacks.now ≤ MOST_ROWS }
+    requires weights { length weights.now ≡ length slacks.now }
+    requires flows { length flows.now ≡ length slacks.now }
+    requires rates { length rates.now ≡ length slacks.now }
     requires scale { scale ≤ 1000000 }
     requires small_weights { AreSmallWeights weights.now }
-    requires small_flows { AreSmallFlows flows.now }
-    requires small_taken { AreSmallTaken 100000 taken.now }
+    requires small_flows { AreFlowsWith 100000 flows.now }
     requires small_rates { AreSmallRates 100000 rates.now }
-    ensures value { result ≡ rows_sum arcs.now slacks.now weights.now weighted scale flows.now
-        taken.now rates.now }
-    ensures size { unsigned_abs result ≤ 13 * 10 ^ 37 }
+    ensures value { result ≡ rows_sum slacks.now weights.now weighted scale flows.now rates.now }
+    ensures size { unsigned_abs result ≤ 12 * 10 ^ 37 }
 {
     let mut sum = 0;
-    for i in 0..arcs.len() {
+    for i in 0..slacks.len() {
         let scaled = scaled_weight(weights[i], weighted, scale);
-        let left = left_at(scaled, flows[i], taken[i]);
-        let term = row_term(left, slacks[i], rates[i], flows[i], arcs[i].lower);
-        sum = plus(sum, term);
+        let left = left_at(scaled, flows[i]);
+        sum = plus(sum, lesser_excess(left, slacks[i], rates[i]));
     }
     sum
 }

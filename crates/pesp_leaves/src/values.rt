@@ -21,8 +21,8 @@ use crate::gains::add_walks;
 use crate::leaf::{leaf_value, offset_sum};
 use crate::lemmas::add_lemmas;
 use crate::ranges::Ranges;
-use crate::terms::rows_sum;
-use pesp_problem::exact::plus;
+use crate::terms::{lower_sum, rows_sum};
+use pesp_problem::exact::{minus, plus};
 use pesp_problem::{Pair, Rates, clear};
 
 /// The value by its scale of a leaf that may name cycles, marked walks and lemmas, under the weights that are told; none where
@@ -35,7 +35,6 @@ fn value_behind<P: Elements<Pair>>(
     weighted: bool,
     scale: u32,
     flows: &mut [i128],
-    taken: &mut [i128],
     rates: &mut [Rates],
 ) -> Option<i128>
     requires fits { FitsShown checker.now.instance.now shown.now }
@@ -48,7 +47,6 @@ fn value_behind<P: Elements<Pair>>(
         (names_more (length checker.now.table.now) (P.elements pairs)) }
     requires most { scale ≤ 1000000 }
     requires long { length flows.old ≡ length checker.now.instance.now.rows }
-    requires much { length taken.old ≡ length checker.now.instance.now.rows }
     requires wide { length rates.old ≡ length checker.now.instance.now.rows }
     requires zeros { AreZeros flows.old }
     ensures value { (walks : List (List SignedRow)) (own : ℕ → ℤ)
@@ -70,23 +68,14 @@ fn value_behind<P: Elements<Pair>>(
         pairs: others,
     };
     let offsets = offset_sum(checker, ranges, of_cycles)?;
-    clear(rates);
-    taken.fill(0);
-    let gains = add_walks(checker, shown, &ranges.slacks, others, rates);
-    let floors = add_lemmas(cycles_and_walks, shown.facts, pairs, taken);
     add_flows(flows, checker.table, of_cycles);
-    let rows = rows_sum(
-        shown.arcs,
-        &ranges.slacks,
-        shown.weights,
-        weighted,
-        scale,
-        flows,
-        taken,
-        rates,
-    );
+    let lowers = lower_sum(shown.arcs, flows);
+    clear(rates);
+    let gains = add_walks(checker, shown, &ranges.slacks, others, rates);
+    let floors = add_lemmas(cycles_and_walks, shown.facts, pairs, flows);
+    let rows = rows_sum(&ranges.slacks, shown.weights, weighted, scale, flows, rates);
     flows.fill(0);
-    Some(plus(plus(plus(offsets, gains), floors), rows))
+    Some(plus(plus(plus(minus(offsets, lowers), gains), floors), rows))
 }
 
 /// The scale of a leaf that names more than cycles, or of one that doesn't.
@@ -113,48 +102,8 @@ fn is_plain(shown: &Shown<'_>, more: bool, weighted: bool) -> bool
     !more && (shown.is_cost || !weighted)
 }
 
-/// The value of a leaf behind a front by its scale. One that names cycles alone has the value that it has without a front.
-fn value_shown<P: Elements<Pair>>(
-    checker: &Checker<'_>,
-    shown: &Shown<'_>,
-    ranges: &Ranges,
-    pairs: P,
-    more: bool,
-    weighted: bool,
-    flows: &mut [i128],
-    taken: &mut [i128],
-    rates: &mut [Rates],
-) -> Option<i128>
-    requires fits { FitsShown checker.now.instance.now shown.now }
-    requires ranges { AreRanges checker.now.instance.now ranges.now }
-    requires cycles { length ranges.now.offsets.items ≡ length checker.now.table.now }
-    requires named { AreNamed (length checker.now.table.now)
-        (length shown.now.marks.now.walks + length shown.now.facts.now) (P.elements pairs) }
-    requires limits { ArePairLimits (P.elements pairs) }
-    requires more { more ≡ names_more (length checker.now.table.now) (P.elements pairs) }
-    requires long { length flows.old ≡ length checker.now.instance.now.rows }
-    requires much { length taken.old ≡ length checker.now.instance.now.rows }
-    requires wide { length rates.old ≡ length checker.now.instance.now.rows }
-    requires zeros { AreZeros flows.old }
-    ensures value { (walks : List (List SignedRow)) (own : ℕ → ℤ)
-        → AreNets (length checker.now.instance.now.rows) walks checker.now.table.now
-        → ((i : ℕ) → i < length shown.now.weights.now → number_at shown.now.weights.now i ≡ own i)
-        → result ≡ value_by shown.now.marks.now shown.now.facts.now (net_of checker.now.instance.now) walks
-        (node_of ranges.now) (P.elements pairs) (λ i. if weighted then own i else pos 0) }
-    ensures size { IfSome result (λ v. unsigned_abs v ≤ 14 * 10 ^ 37) }
-    ensures zeros { AreZeros flows.new }
-{
-    if is_plain(shown, more, weighted) {
-        return leaf_value(checker, ranges, pairs, weighted, flows);
-    }
-    let scale = scale_of(&Claim::Behind(*shown), more);
-    value_behind(
-        checker, shown, ranges, pairs, weighted, scale, flows, taken, rates,
-    )
-}
-
-/// The value of a leaf by its scale, with the rows' weights or without; none where a cycle of a pair has no offset left. The
-/// flows, one a row, are 0 before and after. Behind a front there are as many of what lemmas take, and as many rates.
+/// The value of a leaf by its scale, with the rows' weights or without. None where a cycle of a pair has no offset left. The
+/// flows, one a row, are 0 before and after. Behind a front there are as many rates.
 pub fn value_of<P: Elements<Pair>>(
     checker: &Checker<'_>,
     ranges: &Ranges,
@@ -162,7 +111,6 @@ pub fn value_of<P: Elements<Pair>>(
     more: bool,
     weighted: bool,
     flows: &mut [i128],
-    taken: &mut [i128],
     rates: &mut [Rates],
 ) -> Option<i128>
     requires ranges { AreRanges checker.now.instance.now ranges.now }
@@ -171,7 +119,7 @@ pub fn value_of<P: Elements<Pair>>(
     requires limits { ArePairLimits (P.elements pairs) }
     requires more { more ≡ names_more (length checker.now.table.now) (P.elements pairs) }
     requires long { length flows.old ≡ length checker.now.instance.now.rows }
-    requires room { HasRoom checker.now.claim (length checker.now.instance.now.rows) (length taken.old) (length rates.old) }
+    requires room { HasRoom checker.now.claim (length checker.now.instance.now.rows) (length rates.old) }
     requires zeros { AreZeros flows.old }
     ensures value { (walks : List (List SignedRow)) (claim : SpecClaim)
         → AreNets (length checker.now.instance.now.rows) walks checker.now.table.now
@@ -182,8 +130,12 @@ pub fn value_of<P: Elements<Pair>>(
 {
     match &checker.claim {
         Claim::Plain(_) => leaf_value(checker, ranges, pairs, weighted, flows),
-        Claim::Behind(shown) => value_shown(
-            checker, shown, ranges, pairs, more, weighted, flows, taken, rates,
-        ),
+        Claim::Behind(shown) => {
+            if is_plain(shown, more, weighted) {
+                return leaf_value(checker, ranges, pairs, weighted, flows);
+            }
+            let scale = scale_of(&checker.claim, more);
+            value_behind(checker, shown, ranges, pairs, weighted, scale, flows, rates)
+        }
     }
 }

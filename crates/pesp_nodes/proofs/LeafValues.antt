@@ -1,5 +1,5 @@
 -- The value of a leaf as it is added up.
-use Rattle.std.proofs.Common.{◌≡◌, ℕ, zero, suc, ◌+◌, ◌-◌, ◌*◌, ◌<◌, ◌≤◌, List, ◌∷◌, length, get_or, drop, drop-cons, add-one, ap, sym, ◌∙◌, refl, arith, Bool, Option, Some, None}
+use Rattle.std.proofs.Common.{◌≡◌, ℕ, zero, suc, ◌+◌, ◌-◌, ◌*◌, ◌<◌, ◌≤◌, List, ◌∷◌, length, get_or, drop, drop-cons, add-one, ap, ◌∙◌, refl, arith, Bool, Option, Some, None}
 use Rattle.std.specs.Prelude.{ℤ, pos, ◌+ℤ◌, ◌-ℤ◌, ◌*ℤ◌, unsigned_abs, option_map}
 use Rattle.std.proofs.lemmas.Int.{ints}
 use Rattle.std.proofs.lemmas.Bool.{cases_lt}
@@ -7,10 +7,10 @@ use Rattle.std.proofs.Common.{inl, inr}
 use Rattle.std.proofs.lemmas.List.{drop_all}
 use Rattle.pesp_problem.specs.declared.row.SignedRow.{SignedRow}
 use Rattle.pesp_problem.specs.declared.pair.Pair.{Pair}
-use Rattle.pesp_problem.specs.Sums.{sum_below, scaled}
+use Rattle.pesp_problem.specs.Sums.{scaled}
 use Rattle.pesp_problem.specs.Arcs.{Net, arc_at, over_arcs}
 use Rattle.pesp_problem.specs.Nodes.{Node, offsets_left, offset_part, slack_part, flow, leaf_value}
-use Rattle.pesp_problem.proofs.Integers.{cong_add, sum_below-sub}
+use Rattle.pesp_problem.proofs.Integers.{sum_below-sub}
 use Rattle.pesp_problem.proofs.LeafValues.{IsWhole, offset_first, offset_more, offset_none, offset_all}
 use Rattle.pesp_nodes.specs.Problems.{ArePairs}
 use Rattle.pesp_nodes.specs.Values.{row_term_at}
@@ -94,7 +94,3 @@ few_all pairs n h = elim (cases_lt 0 (length pairs)) [
       let last = few_pairs pairs n (length pairs - 1) d h (omega arith) in omega arith)
   | inr none ↦ omega arith
 ]
-
--- one row more
-pub rows_more : (f : ℕ → ℤ) (k : ℕ) (sum here sum' : ℤ) → sum ≡ sum_below k f → here ≡ f k → sum' ≡ sum +ℤ here → sum' ≡ sum_below (k + 1) f
-rows_more f k sum here sum' s h e = e ∙ cong_add s h ∙ sym (ap (λ (j : ℕ). sum_below j f) (add-one k))

@@ -1,18 +1,19 @@
 //! Flows: for a row, the sum over a leaf's pairs of the multiplier times the net count.
 
-ghost use Rattle.std.specs.Prelude.{◌≡◌, ℕ, ◌+◌, ◌*◌, ◌^◌, ◌<◌, ◌≤◌, List, length, ◌+ℤ◌, ◌*ℤ◌, unsigned_abs, All, sum_by, IfOk};
+ghost use Rattle.std.specs.Prelude.{◌≡◌, ◌+◌, ◌^◌, ◌<◌, ◌≤◌, List, length, ◌*ℤ◌, unsigned_abs, All, sum_by, IfOk};
 ghost use Rattle.pesp_problem.specs.declared.limits.TheConstants.{MOST_MULTIPLIER, MOST_ROWS, MOST_SIGNED_ROWS};
 ghost use Rattle.pesp_problem.specs.declared.row.SignedRow.{SignedRow};
 ghost use Rattle.pesp_problem.specs.Walks.{Names};
 ghost use Rattle.pesp_problem.specs.Nodes.{flow};
 ghost use Rattle.pesp_problem.specs.Nets.{AreSmallCounts, AreZeros, AreNets};
-ghost use Rattle.pesp_nodes.specs.Flows.{count_of, number_at, AreSmallFlows, AreFlows};
+ghost use Rattle.pesp_problem.specs.Terms.{AreSmallFlows};
+ghost use Rattle.pesp_nodes.specs.Flows.{AreFlows};
 ghost use Rattle.pesp_nodes.specs.Passages.{mult_of, sum_over, ArePassagesOf};
 ghost use Rattle.pesp_nodes.specs.Problems.{Rise, ArePairs};
 
 use crate::passages::Passage;
 use pesp_problem::exact::{plus, times};
-use pesp_problem::{NetCount, Nets, Pair};
+use pesp_problem::{Nets, Pair, add_flow};
 use std::alloc::{AllocError, Global};
 
 /// The multiplier of a cycle, 0 where no pair has it.
@@ -45,33 +46,6 @@ fn no_flows(alloc: Global, rows: usize) -> Result<Vec<i128>, AllocError>
     ensures zeros { IfOk result (λ flows. AreZeros flows.items) }
 {
     vec![in alloc; 0; rows]
-}
-
-/// A multiplier times a net count.
-fn product(mult: i64, count: i64) -> i128
-    requires mult { unsigned_abs mult ≤ MOST_MULTIPLIER }
-    requires count { unsigned_abs count ≤ MOST_SIGNED_ROWS }
-    ensures value { result ≡ mult *ℤ count }
-    ensures size { unsigned_abs result ≤ 10 ^ 19 }
-{
-    times(i128::from(mult), i128::from(count))
-}
-
-/// Adds a multiplier times each net count to the flow of its row.
-fn add_flow(flows: &mut [i128], counts: &[NetCount], mult: i64)
-    requires counts { AreSmallCounts (length flows.old) counts.now }
-    requires mult { unsigned_abs mult ≤ MOST_MULTIPLIER }
-    requires small { AreSmallFlows flows.old }
-    ensures sum { (i : ℕ) → i < length flows.old
-        → number_at flows.new i ≡ number_at flows.old i +ℤ mult *ℤ count_of counts.now i }
-    ensures size { (i : ℕ) → i < length flows.old
-        → unsigned_abs (number_at flows.new i) ≤ unsigned_abs (number_at flows.old i) + 10 ^ 19 }
-{
-    for net in counts {
-        let at = net.place as usize;
-        let flow = plus(flows[at], product(mult, net.count));
-        flows[at] = flow;
-    }
 }
 
 /// Makes the flows of the pairs out of flows that are 0.

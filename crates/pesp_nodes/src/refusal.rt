@@ -4,7 +4,7 @@ ghost use Rattle.std.specs.Prelude.{◌≡◌};
 ghost use Rattle.pesp_nodes.specs.declared.refusal.ProblemRefusal.TheVariants.{Memory as Refused};
 
 use pesp_problem::Memory;
-use std::alloc::{AllocError, AllocFailed};
+use std::alloc::AllocError;
 
 /// A growth was refused; a walk of the table doesn't close, the first such cycle by its number from 1 (an empty walk, or one
 /// along a row that doesn't exist, doesn't close either); or all walks close, and there are more than 100000 cycles or
@@ -28,14 +28,6 @@ impl From<AllocError> for ProblemRefusal {
     ghost from_gives = { λ _ e. e ≡ Refused };
 
     fn from(_refused: AllocError) -> ProblemRefusal {
-        ProblemRefusal::Memory
-    }
-}
-
-impl<T: Drop> From<AllocFailed<T>> for ProblemRefusal {
-    ghost from_gives = { λ _ e. e ≡ Refused };
-
-    fn from(_refused: AllocFailed<T>) -> ProblemRefusal {
         ProblemRefusal::Memory
     }
 }

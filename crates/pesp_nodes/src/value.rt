@@ -1,6 +1,6 @@
 //! What leaves are worth.
 
-ghost use Rattle.std.specs.Prelude.{◌≡◌, ℕ, ◌+◌, ◌-◌, ◌*◌, ◌^◌, ◌<◌, ◌≤◌, List, length, pos, ◌*ℤ◌, ◌-ℤ◌, unsigned_abs, All, IfSome, option_map, sum_by};
+ghost use Rattle.std.specs.Prelude.{◌≡◌, ◌-◌, ◌*◌, ◌^◌, ◌<◌, ◌≤◌, List, length, pos, ◌*ℤ◌, unsigned_abs, All, IfSome, option_map, sum_by};
 ghost use Rattle.pesp_problem.specs.declared.limits.TheConstants.{MOST_CYCLES, MOST_LOWER, MOST_MULTIPLIER, MOST_PERIOD, MOST_ROWS, MOST_SIGNED_ROWS, MOST_WEIGHT};
 ghost use Rattle.pesp_problem.specs.declared.row.SignedRow.{SignedRow};
 ghost use Rattle.pesp_problem.specs.Sums as sums;
@@ -9,8 +9,9 @@ ghost use Rattle.pesp_problem.specs.Walks.{Names};
 ghost use Rattle.pesp_problem.specs.Nodes.{offsets_left, offset_part, weight_of, flow};
 ghost use Rattle.pesp_problem.specs.Nodes as spec;
 ghost use Rattle.pesp_problem.specs.Ranges.{AreSlackEnds, lesser};
+ghost use Rattle.pesp_problem.specs.Terms.{AreSmallFlows};
 ghost use Rattle.pesp_nodes.specs.Offsets.{AreArcs, IsSmallOffset};
-ghost use Rattle.pesp_nodes.specs.Flows.{AreSmallFlows, AreFlows};
+ghost use Rattle.pesp_nodes.specs.Flows.{AreFlows};
 ghost use Rattle.pesp_nodes.specs.Passages.{ArePassages};
 ghost use Rattle.pesp_nodes.specs.Problems.{problem_net, IsNodeOf, Rise, ArePairs};
 ghost use Rattle.pesp_nodes.specs.Values.{plain_row_term, row_term_at};

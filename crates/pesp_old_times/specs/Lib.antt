@@ -1,3 +1,4 @@
 pub mod OldTimes
 pub mod Tables
 pub mod Moves
+pub mod Beginning

@@ -1,153 +1,109 @@
-//! Calls over texts, instances and certificates.
+//! Calls that no command shows alone.
 
-use crate::answers::{CallAnswer, right_if};
-use crate::texts::{CERTIFICATE, INSTANCE, PERIOD, REPORT, certificate_of, instance_of};
-use pesp_cert::{CertRefusal, Certificate, parse};
-use pesp_check::{CheckFault, Verdict, check, check_text};
-use pesp_instance::{ReadRefusal, read_instance};
-use pesp_problem::Instance;
-use pesp_report::{ReportRefusal, report};
-use pesp_solver::{SolveRefusal, solve};
+use crate::given::Case;
+use crate::rows::{instance_of, table_of};
+use crate::spelling::add_joined;
+use crate::words::words_of;
+use pesp_cert::{Answer, Certificate, NotACertificate, TreeLine};
+use pesp_instance::read_instance;
+use pesp_problem::{Instance, Score, score};
+use pesp_report::report;
 use pesp_stream::Counted;
-use pesp_truth::Answer as Claim;
 use std::alloc::Global;
-use std::io;
-use std::io::Write;
 
-pub(crate) fn try_read_instance(alloc: Global) -> CallAnswer {
-    match read_instance(alloc, INSTANCE, PERIOD) {
-        Ok(instance) => right_if(instance.rows().len() == 2 && instance.events().len() == 2),
-        Err(ReadRefusal::Memory) => CallAnswer::Memory,
-        Err(_) => CallAnswer::Wrong,
+/// Tells that the instance is read, or why it isn't.
+pub(crate) fn ask_read(case: Case<'_>, told: &mut String) -> Option<()> {
+    let period = case.period()?;
+    match read_instance(case.alloc, &case.text("instance")?, period) {
+        Ok(instance) => {
+            drop(instance);
+            told.push_str(" read").ok()
+        }
+        Err(refusal) => write!(told, " {refusal:?}").ok(),
     }
 }
 
-pub(crate) fn try_parse(alloc: Global) -> CallAnswer {
-    match parse(alloc, CERTIFICATE) {
+/// The times of the question's words.
+pub fn times_of(case: Case<'_>) -> Option<Vec<u32>> {
+    let mut times = Vec::new(case.alloc);
+    for word in &words_of(case.alloc, case.rest)? {
+        times.push(word.parse().ok()?).ok()?;
+    }
+    Some(times)
+}
+
+/// Tells what the times of the question are worth.
+pub(crate) fn ask_score(case: Case<'_>, told: &mut String) -> Option<()> {
+    let times = times_of(case)?;
+    let instance = instance_of(case)?;
+    let worth = score(&instance, &times);
+    drop(instance);
+    match worth {
+        Score::Feasible { cost } => write!(told, " cost {cost}").ok(),
+        Score::Violates { row, slack } => {
+            write!(told, " row {row} is violated by slack {slack}").ok()
+        }
+        Score::NotTimes => told.push_str(" no times").ok(),
+    }
+}
+
+/// Tells the report of the times of the question, or why there is none.
+pub(crate) fn ask_reported(case: Case<'_>, told: &mut String) -> Option<()> {
+    let times = times_of(case)?;
+    let instance = instance_of(case)?;
+    let done = tell_report(case.alloc, &instance, &times, told);
+    drop(instance);
+    done
+}
+
+fn tell_report(alloc: Global, instance: &Instance, times: &[u32], told: &mut String) -> Option<()> {
+    let mut writer = Counted::new(Vec::new(alloc));
+    told.push_str(" ").ok()?;
+    match report(alloc, instance, times, &mut writer) {
+        Ok(()) => add_joined(&writer.into_inner(), told),
+        Err(refusal) => write!(told, "{refusal:?}").ok(),
+    }
+}
+
+/// So many gap leaves.
+fn gaps(alloc: Global, count: u32) -> Option<Vec<TreeLine>> {
+    let mut tree = Vec::new(alloc);
+    for _ in 0..count {
+        tree.push(TreeLine::Gap(1)).ok()?;
+    }
+    Some(tree)
+}
+
+/// A certificate that there is no timetable, at period 10.
+/// It has one time, the given cycles and so many gap leaves.
+fn made(case: Case<'_>, count: u32) -> Option<Result<Certificate, NotACertificate>> {
+    let times = vec![in case.alloc; (1, 0)].ok()?;
+    let cycles = table_of(case)?;
+    let tree = gaps(case.alloc, count)?;
+    let answer = Answer::Infeasible;
+    Some(Certificate::new(1, 10, answer, times, cycles, tree))
+}
+
+/// Tells what such a certificate has, or `none` where there is none.
+pub(crate) fn ask_made(case: Case<'_>, told: &mut String) -> Option<()> {
+    match made(case, case.number(0)?)? {
         Ok(certificate) => {
-            right_if(certificate.answer() == Claim::Optimal(5) && certificate.tree().len() == 3)
-        }
-        Err(CertRefusal::Memory) => CallAnswer::Memory,
-        Err(_) => CallAnswer::Wrong,
-    }
-}
-
-fn check_on(alloc: Global, instance: &Instance, certificate: &Certificate) -> CallAnswer {
-    match check(alloc, instance, certificate) {
-        Ok(verdict) => right_if(verdict == Verdict::Accepted),
-        Err(_) => CallAnswer::Memory,
-    }
-}
-
-fn check_parsed(alloc: Global, instance: &Instance) -> CallAnswer {
-    match certificate_of(alloc) {
-        Some(certificate) => {
-            let answer = check_on(alloc, instance, &certificate);
+            let done = tell_parts(&certificate, told);
             drop(certificate);
-            answer
+            done
         }
-        None => CallAnswer::Memory,
+        Err(_) => told.push_str(" none").ok(),
     }
 }
 
-pub(crate) fn try_check(alloc: Global) -> CallAnswer {
-    match instance_of(alloc) {
-        Some(instance) => {
-            let answer = check_parsed(alloc, &instance);
-            drop(instance);
-            answer
-        }
-        None => CallAnswer::Memory,
-    }
-}
-
-fn check_text_on(alloc: Global, instance: &Instance) -> CallAnswer {
-    let mut reader = Counted::new(CERTIFICATE);
-    match check_text(alloc, instance, &mut reader) {
-        Ok((verdict, claim)) => {
-            right_if(verdict == Verdict::Accepted && claim == Claim::Optimal(5))
-        }
-        Err(CheckFault::Memory) => CallAnswer::Memory,
-        Err(_) => CallAnswer::Wrong,
-    }
-}
-
-pub(crate) fn try_check_text(alloc: Global) -> CallAnswer {
-    match instance_of(alloc) {
-        Some(instance) => {
-            let answer = check_text_on(alloc, &instance);
-            drop(instance);
-            answer
-        }
-        None => CallAnswer::Memory,
-    }
-}
-
-/// A writer that compares what it takes with a text.
-#[derive(Drop)]
-struct Comparing<'a> {
-    rest: &'a [u8],
-    same: bool,
-}
-
-impl Write for Comparing<'_> {
-    fn write(&mut self, buf: &[u8]) -> io::Result<usize> {
-        match self.rest.split_at_checked(buf.len()) {
-            Some((front, rest)) => {
-                self.same &= front == buf;
-                self.rest = rest;
-            }
-            None => self.same = false,
-        }
-        Ok(buf.len())
-    }
-
-    fn flush(&mut self) -> io::Result<()> {
-        Ok(())
-    }
-}
-
-fn report_on(alloc: Global, instance: &Instance) -> CallAnswer {
-    let mut writer = Counted::new(Comparing {
-        rest: REPORT,
-        same: true,
-    });
-    match report(alloc, instance, &[0, 0], &mut writer) {
-        Ok(()) => {
-            let written = writer.into_inner();
-            right_if(written.same && written.rest.is_empty())
-        }
-        Err(ReportRefusal::Memory) => CallAnswer::Memory,
-        Err(_) => CallAnswer::Wrong,
-    }
-}
-
-pub(crate) fn try_report(alloc: Global) -> CallAnswer {
-    match instance_of(alloc) {
-        Some(instance) => {
-            let answer = report_on(alloc, &instance);
-            drop(instance);
-            answer
-        }
-        None => CallAnswer::Memory,
-    }
-}
-
-fn solve_on(alloc: Global, instance: &Instance) -> CallAnswer {
-    match solve(alloc, instance, 3) {
-        Ok(solved) => right_if(solved.certificate.answer() == Claim::Optimal(5)),
-        Err(SolveRefusal::Memory) => CallAnswer::Memory,
-        Err(_) => CallAnswer::Wrong,
-    }
-}
-
-pub(crate) fn try_solve(alloc: Global) -> CallAnswer {
-    match instance_of(alloc) {
-        Some(instance) => {
-            let answer = solve_on(alloc, &instance);
-            drop(instance);
-            answer
-        }
-        None => CallAnswer::Memory,
-    }
+fn tell_parts(certificate: &Certificate, told: &mut String) -> Option<()> {
+    let period = certificate.period();
+    let answer = certificate.answer();
+    let times = certificate.times().len();
+    let cycles = certificate.cycles().len();
+    write!(
+        told,
+        " period {period}, {answer:?}, {times} times, {cycles} cycles"
+    )
+    .ok()
 }

@@ -1,10 +1,13 @@
-//! Problems, their nodes, and what pairs are worth there.
+//! Problems, their nodes, what pairs are worth there, and the leaves that are found.
 
 ghost use Rattle.std.specs.Prelude.{IsTrue, IfSome};
 ghost use Rattle.pesp_nodes.specs.Problems.{IsNodeOf, IsCutOf};
 
-use crate::given::{cuts_of, given_network, table_of};
-use pesp_cases::{pairs_of, small, spell_ranges};
+use crate::given::Case;
+use crate::rows::{cuts_of, network_of, table_of};
+use crate::spelling::{tell_number, tell_ranges};
+use crate::words::{look_up, pairs_of, words_of};
+use pesp_bound::{Leaf, Pairs, best_leaf, best_leaf_from};
 use pesp_network::Network;
 use pesp_nodes::{
     Cut, Node, Pair, Problem, ProblemRefusal, Side, are_pairs, leaf_value, offset_range,
@@ -13,19 +16,19 @@ use pesp_problem::Walk;
 use std::alloc::Global;
 
 /// The given cycles, or the network's own where none are given.
-fn cycles_of(alloc: Global, network: &Network, lines: &[&str]) -> Option<Vec<Walk>> {
-    let table = table_of(alloc, lines)?;
+fn cycles_of(case: Case<'_>, network: &Network) -> Option<Vec<Walk>> {
+    let table = table_of(case)?;
     if table.is_empty() {
-        return network.cycles(alloc).ok();
+        return network.cycles(case.alloc).ok();
     }
     Some(table)
 }
 
-/// The problem of the network with the given cycles, or with its own where none are given.
-fn made(alloc: Global, lines: &[&str]) -> Option<Result<Problem, ProblemRefusal>> {
-    let network = given_network(alloc, lines)?;
-    match cycles_of(alloc, &network, lines) {
-        Some(table) => Some(Problem::new(alloc, network, table)),
+/// The problem of the network with these cycles.
+fn made(case: Case<'_>) -> Option<Result<Problem, ProblemRefusal>> {
+    let network = network_of(case)?.ok()?;
+    match cycles_of(case, &network) {
+        Some(table) => Some(Problem::new(case.alloc, network, table)),
         None => {
             drop(network);
             None
@@ -33,26 +36,22 @@ fn made(alloc: Global, lines: &[&str]) -> Option<Result<Problem, ProblemRefusal>
     }
 }
 
-pub(crate) fn problem_of(alloc: Global, lines: &[&str]) -> Option<Problem> {
-    made(alloc, lines)?.ok()
-}
-
-/// The size of the problem, or why there is none.
-pub(crate) fn ask_problem(alloc: Global, lines: &[&str]) -> Option<String> {
-    match made(alloc, lines)? {
+/// Tells the size of the problem, or why there is none.
+pub(crate) fn ask_problem(case: Case<'_>, told: &mut String) -> Option<()> {
+    match made(case)? {
         Ok(problem) => {
-            let told = size(alloc, &problem);
+            let done = tell_size(&problem, told);
             drop(problem);
-            told
+            done
         }
-        Err(refusal) => format!(in alloc; "{refusal:?}").ok(),
+        Err(refusal) => write!(told, " {refusal:?}").ok(),
     }
 }
 
-fn size(alloc: Global, problem: &Problem) -> Option<String> {
+fn tell_size(problem: &Problem, told: &mut String) -> Option<()> {
     let events = problem.network().events();
     let cycles = problem.table().len();
-    format!(in alloc; "{events} events, {cycles} cycles").ok()
+    write!(told, " {events} events, {cycles} cycles").ok()
 }
 
 /// Whether a node has what the cut names, and the cut keeps its limit.
@@ -70,7 +69,7 @@ fn has_cut(node: &Node, cut: Cut) -> bool
 }
 
 /// The part of the root by the given cuts.
-pub(crate) fn node_of(alloc: Global, problem: &Problem, cuts: &[(Cut, Side)]) -> Option<Node>
+fn node_of(alloc: Global, problem: &Problem, cuts: &[(Cut, Side)]) -> Option<Node>
     ensures { IfSome result (IsNodeOf problem.now) }
 {
     let Ok(mut node) = problem.root(alloc) else {
@@ -85,86 +84,125 @@ pub(crate) fn node_of(alloc: Global, problem: &Problem, cuts: &[(Cut, Side)]) ->
     Some(node)
 }
 
-/// The part of the root by the cuts of the lines.
-pub(crate) fn given_node(alloc: Global, problem: &Problem, lines: &[&str]) -> Option<Node>
-    ensures { IfSome result (IsNodeOf problem.now) }
-{
-    match cuts_of(alloc, lines) {
-        Some(cuts) => node_of(alloc, problem, &cuts),
+/// Tells the answer to a question to the node of the given cuts.
+pub(crate) fn ask_node(case: Case<'_>, told: &mut String) -> Option<()> {
+    let cuts = cuts_of(case)?;
+    let problem = made(case)?.ok()?;
+    let done = tell_node(case, &problem, &cuts, told);
+    drop(problem);
+    done
+}
+
+fn tell_node(
+    case: Case<'_>,
+    problem: &Problem,
+    cuts: &[(Cut, Side)],
+    told: &mut String,
+) -> Option<()> {
+    match node_of(case.alloc, problem, cuts) {
+        Some(node) => {
+            let done = answer(case, problem, &node, told);
+            drop(node);
+            done
+        }
         None => None,
     }
 }
 
-/// A question to the node of the given cuts.
-pub(crate) fn ask_node(alloc: Global, lines: &[&str], words: &[&str]) -> Option<String> {
-    let problem = problem_of(alloc, lines)?;
-    let told = ask_problem_node(alloc, &problem, lines, words);
-    drop(problem);
-    told
+/// What is asked of a node.
+#[derive(Clone, Copy)]
+enum Asked {
+    Slacks,
+    Offsets,
+    Left,
+    Value,
+    Emptiness,
+    Leaf,
 }
 
-fn ask_problem_node(
-    alloc: Global,
-    problem: &Problem,
-    lines: &[&str],
-    words: &[&str],
-) -> Option<String> {
-    answer(alloc, problem, &given_node(alloc, problem, lines)?, words)
-}
+/// The second word of each question.
+const ASKED: [(&str, Asked); 6] = [
+    ("slacks", Asked::Slacks),
+    ("offsets", Asked::Offsets),
+    ("left", Asked::Left),
+    ("value", Asked::Value),
+    ("emptiness", Asked::Emptiness),
+    ("leaf", Asked::Leaf),
+];
 
-fn answer(alloc: Global, problem: &Problem, node: &Node, words: &[&str]) -> Option<String>
+fn answer(case: Case<'_>, problem: &Problem, node: &Node, told: &mut String) -> Option<()>
     requires { IsNodeOf problem.now node.now }
 {
-    match *words.get(1)? {
-        "slacks" => spell_ranges(alloc, node.slacks()),
-        "offsets" => spell_ranges(alloc, node.offsets()),
-        "left" => left(alloc, problem, node, small(words, 2)?),
-        "value" => value(alloc, problem, node, words.get(2..)?, true),
-        "emptiness" => value(alloc, problem, node, words.get(2..)?, false),
-        _ => None,
+    match look_up(&ASKED, case.word(0)?)? {
+        Asked::Slacks => tell_ranges(node.slacks(), told),
+        Asked::Offsets => tell_ranges(node.offsets(), told),
+        Asked::Left => tell_left(problem, node, case.number(1)?, told),
+        Asked::Leaf => tell_best(case, problem, node, told),
+        Asked::Value => tell_value(problem, node, &given_pairs(case)?, true, told),
+        Asked::Emptiness => tell_value(problem, node, &given_pairs(case)?, false, told),
     }
 }
 
-/// The offsets left of a cycle.
-fn left(alloc: Global, problem: &Problem, node: &Node, cycle: u32) -> Option<String>
+/// Tells the offsets left of a cycle.
+fn tell_left(problem: &Problem, node: &Node, cycle: u32, told: &mut String) -> Option<()>
     requires { IsNodeOf problem.now node.now }
 {
     if cycle == 0 || cycle as usize > problem.table().len() {
         return None;
     }
     match offset_range(problem, node, cycle) {
-        Some((low, high)) => format!(in alloc; "{low}..{high}").ok(),
-        None => String::from_str(alloc, "none").ok(),
+        Some((low, high)) => write!(told, " {low}..{high}").ok(),
+        None => told.push_str(" none").ok(),
     }
 }
 
-/// The value of the pairs of the words, with the rows' weights or with all weights 0.
-fn value(
-    alloc: Global,
-    problem: &Problem,
-    node: &Node,
-    words: &[&str],
-    weighted: bool,
-) -> Option<String>
-    requires { IsNodeOf problem.now node.now }
-{
-    value_of(alloc, problem, node, &pairs_of(alloc, words)?, weighted)
+/// The pairs behind the second word of the question.
+fn given_pairs(case: Case<'_>) -> Option<Vec<Pair>> {
+    pairs_of(case.alloc, words_of(case.alloc, case.rest)?.get(1..)?)
 }
 
-fn value_of(
-    alloc: Global,
+/// Tells the value of pairs, with the rows' weights or with all weights 0.
+fn tell_value(
     problem: &Problem,
     node: &Node,
     pairs: &[Pair],
     weighted: bool,
-) -> Option<String>
+    told: &mut String,
+) -> Option<()>
     requires { IsNodeOf problem.now node.now }
 {
     if !are_pairs(pairs, problem.table().len()) {
         return None;
     }
-    match leaf_value(problem, node, pairs, weighted) {
-        Some(value) => format!(in alloc; "{value}").ok(),
-        None => String::from_str(alloc, "none").ok(),
+    tell_number(leaf_value(problem, node, pairs, weighted), told)
+}
+
+/// Tells the leaf that is found in so many rounds.
+/// Behind `start` these are 1000 rounds from no pairs.
+fn tell_best(case: Case<'_>, problem: &Problem, node: &Node, told: &mut String) -> Option<()>
+    requires { IsNodeOf problem.now node.now }
+{
+    let alloc = case.alloc;
+    if case.word(1)? == "start" {
+        return tell_leaf(&best_leaf_from(alloc, problem, node, &[], 1000).ok()?, told);
+    }
+    let rounds = case.number(1)?;
+    tell_leaf(&best_leaf(alloc, problem, node, rounds).ok()?, told)
+}
+
+fn with_pairs(pairs: &Pairs) -> &'static str {
+    if pairs.as_slice().is_empty() {
+        "without pairs"
+    } else {
+        "with pairs"
+    }
+}
+
+/// Tells the kind of a leaf, its number, and whether it has pairs.
+fn tell_leaf(leaf: &Leaf, told: &mut String) -> Option<()> {
+    match leaf {
+        Leaf::Gap { cycle } => write!(told, " gap {cycle}").ok(),
+        Leaf::Nothing { pairs } => write!(told, " nothing {}", with_pairs(pairs)).ok(),
+        Leaf::Bound { pairs, value } => write!(told, " bound {value} {}", with_pairs(pairs)).ok(),
     }
 }

@@ -1,12 +1,14 @@
 //! What is proposed for a search.
 
-use crate::given::{given_network, list_of, ranges_of};
-use crate::networks::{kept, spell_count};
-use pesp_cases::{look_up, small, spell_list};
-use pesp_forest_search::search_forest;
+use crate::given::Case;
+use crate::networks::tell_kept;
+use crate::rows::ranges_of;
+use crate::spelling::tell_list;
+use crate::words::look_up;
 use pesp_network::Network;
 use pesp_propagate::dive_to;
-use pesp_strategy::{Advice, Split, Strategy};
+use pesp_strategy::{Advice, Strategy};
+use pesp_timetables::search_forest;
 use std::alloc::Global;
 
 /// What is asked of proposals.
@@ -34,68 +36,42 @@ const ASKED: [(&str, Asked); 8] = [
     ("dive", Asked::Dive),
 ];
 
-/// The network with the forest of the line `forest ..`.
-fn with_forest(alloc: Global, lines: &[&str]) -> Option<Network> {
-    let forest = list_of(alloc, lines, "forest")?;
-    let network = given_network(alloc, lines)?;
-    let planted = network.with_forest(alloc, &forest);
-    drop(network);
-    planted.ok()
+/// Tells the answer to a question about proposals.
+/// The network has the forest of the line `forest ..`.
+/// Asked are that forest and its size, and the forest that exchanges lead to.
+/// Asked too are what is advised for the root, and the times of a dive.
+pub(crate) fn ask_proposal(case: Case<'_>, network: &Network, told: &mut String) -> Option<()> {
+    let forest = case.list("forest")?;
+    let planted = network.with_forest(case.alloc, &forest).ok()?;
+    let done = answer(case, &planted, told);
+    drop(planted);
+    done
 }
 
-/// A question about proposals for the network with the forest of the line `forest ..`: that forest, how many rows it has, the
-/// forest that so many exchanges by a seed lead to or how many rows that has, what is advised for the root, or the times of a
-/// dive in so many tries to the prices of the line `prices ..`.
-pub(crate) fn ask_proposal(alloc: Global, lines: &[&str], words: &[&str]) -> Option<String> {
-    let network = with_forest(alloc, lines)?;
-    let told = answer(alloc, &network, lines, words);
-    drop(network);
-    told
-}
-
-fn answer(alloc: Global, network: &Network, lines: &[&str], words: &[&str]) -> Option<String> {
-    let asked = look_up(&ASKED, words.get(1)?)?;
+fn answer(case: Case<'_>, network: &Network, told: &mut String) -> Option<()> {
+    let asked = look_up(&ASKED, case.word(0)?)?;
     match asked {
-        Asked::Forest => tell_forest(alloc, network),
-        Asked::Rows => kept(alloc, network),
-        Asked::Search => tell_searched(alloc, network, words),
-        Asked::Searched => count_searched(alloc, network, words),
-        Asked::Leaf | Asked::Cut | Asked::Times => tell_advised(alloc, network, asked, lines),
-        Asked::Dive => tell_dive(alloc, network, lines, words),
+        Asked::Forest => tell_list(&network.forest(case.alloc).ok()?, told),
+        Asked::Rows => tell_kept(case.alloc, network, told),
+        Asked::Search => tell_list(&searched(case, network)?, told),
+        Asked::Searched => write!(told, " {}", searched(case, network)?.len()).ok(),
+        Asked::Dive => tell_dive(case, network, told),
+        _ => tell_advised(case, network, asked, told),
     }
 }
 
-fn tell_forest(alloc: Global, network: &Network) -> Option<String> {
-    spell_list(alloc, &network.forest(alloc).ok()?)
-}
-
 /// The forest that exchanges lead to, by a seed and so many of them.
-fn searched(alloc: Global, network: &Network, words: &[&str]) -> Option<Vec<u32>> {
-    search_forest(alloc, network, small(words, 2)?, small(words, 3)?).ok()
-}
-
-fn tell_searched(alloc: Global, network: &Network, words: &[&str]) -> Option<String> {
-    spell_list(alloc, &searched(alloc, network, words)?)
-}
-
-/// How many rows the forest has that exchanges lead to.
-fn count_searched(alloc: Global, network: &Network, words: &[&str]) -> Option<String> {
-    spell_count(alloc, searched(alloc, network, words)?.len())
+fn searched(case: Case<'_>, network: &Network) -> Option<Vec<u32>> {
+    search_forest(case.alloc, network, case.number(1)?, case.number(2)?).ok()
 }
 
 /// The offsets of the root's cycles, from 0 to those of the line `offsets ..`.
-fn offsets_of(alloc: Global, lines: &[&str]) -> Option<Vec<(i64, i64)>> {
-    list_of(alloc, lines, "offsets")?
+fn offsets_of(case: Case<'_>) -> Option<Vec<(i64, i64)>> {
+    case.list("offsets")?
         .iter()
         .map(|most| (0, i64::from(*most)))
-        .collect(alloc)
+        .collect(case.alloc)
         .ok()
-}
-
-/// What is advised for the root, whose cycles have the offsets of the line `offsets ..`.
-fn advised(alloc: Global, network: &Network, lines: &[&str]) -> Option<Advice> {
-    let slacks = ranges_of(alloc, network)?;
-    advice_for(alloc, network, &slacks, &offsets_of(alloc, lines)?)
 }
 
 fn advice_for(
@@ -105,86 +81,68 @@ fn advice_for(
     offsets: &[(i64, i64)],
 ) -> Option<Advice> {
     let mut strategy = Strategy::new(alloc, network, offsets).ok()??;
-    let advice = look(alloc, &mut strategy, slacks, offsets);
+    let advice = strategy.look(alloc, &[], slacks, offsets, &[], None);
     drop(strategy);
-    advice
+    advice.ok()?
 }
 
-fn look(
-    alloc: Global,
-    strategy: &mut Strategy,
-    slacks: &[(u32, u32)],
-    offsets: &[(i64, i64)],
-) -> Option<Advice> {
-    strategy.look(alloc, &[], slacks, offsets, &[], None).ok()?
-}
-
-/// What is asked of the advice for the root.
-fn tell_advised(alloc: Global, network: &Network, asked: Asked, lines: &[&str]) -> Option<String> {
-    match advised(alloc, network, lines) {
+/// Tells what is asked of the advice for the root.
+fn tell_advised(case: Case<'_>, network: &Network, asked: Asked, told: &mut String) -> Option<()> {
+    let slacks = ranges_of(case.alloc, network)?;
+    let offsets = offsets_of(case)?;
+    match advice_for(case.alloc, network, &slacks, &offsets) {
         Some(advice) => {
-            let told = tell_advice(alloc, asked, &advice);
+            let done = tell_advice(asked, &advice, told);
             drop(advice);
-            told
+            done
         }
         None => None,
     }
 }
 
-/// What is asked of an advice.
-fn tell_advice(alloc: Global, asked: Asked, advice: &Advice) -> Option<String> {
+/// Tells what is asked of an advice.
+fn tell_advice(asked: Asked, advice: &Advice, told: &mut String) -> Option<()> {
     match asked {
-        Asked::Leaf => tell_leaf(alloc, advice),
-        Asked::Cut => tell_cut(alloc, advice),
-        _ => tell_times(alloc, advice),
+        Asked::Leaf => {
+            let pairs = advice.leaf.pairs.len();
+            write!(told, " value {}, {pairs} pairs", advice.leaf.value).ok()
+        }
+        Asked::Cut => tell_split(advice, told),
+        _ => match &advice.times {
+            Some(times) => tell_list(times, told),
+            None => None,
+        },
     }
 }
 
-fn tell_leaf(alloc: Global, advice: &Advice) -> Option<String> {
-    let value = advice.leaf.value;
-    let pairs = advice.leaf.pairs.len();
-    format!(in alloc; "value {value}, {pairs} pairs").ok()
-}
-
-fn tell_cut(alloc: Global, advice: &Advice) -> Option<String> {
-    match &advice.cut {
-        Some(split) => spell_split(alloc, split),
-        None => String::from_str(alloc, "none").ok(),
-    }
-}
-
-fn spell_split(alloc: Global, split: &Split) -> Option<String> {
-    let cycle = split.cycle;
-    let k = split.k;
+fn tell_split(advice: &Advice, told: &mut String) -> Option<()> {
+    let Some(split) = &advice.cut else {
+        return told.push_str(" none").ok();
+    };
     let low = split.low.value;
     let high = split.high.value;
-    format!(in alloc; "cycle {cycle} at {k}, values {low} and {high}").ok()
-}
-
-fn tell_times(alloc: Global, advice: &Advice) -> Option<String> {
-    match &advice.times {
-        Some(times) => spell_list(alloc, times),
-        None => None,
-    }
+    write!(
+        told,
+        " cycle {} at {}, values {low} and {high}",
+        split.cycle, split.k
+    )
+    .ok()
 }
 
 /// The prices of the line `prices ..`.
-fn prices_of(alloc: Global, lines: &[&str]) -> Option<Vec<i64>> {
-    list_of(alloc, lines, "prices")?
+fn prices_of(case: Case<'_>) -> Option<Vec<i64>> {
+    case.list("prices")?
         .iter()
         .map(|price| i64::from(*price))
-        .collect(alloc)
+        .collect(case.alloc)
         .ok()
 }
 
-/// The times that a dive to the prices finds.
-fn dived(alloc: Global, network: &Network, lines: &[&str], tries: u32) -> Option<Option<Vec<u32>>> {
-    dive_to(alloc, network, &prices_of(alloc, lines)?, tries).ok()
-}
-
-fn tell_dive(alloc: Global, network: &Network, lines: &[&str], words: &[&str]) -> Option<String> {
-    match dived(alloc, network, lines, small(words, 2)?)? {
-        Some(times) => spell_list(alloc, &times),
-        None => String::from_str(alloc, "none").ok(),
+/// Tells the times that a dive to the prices finds in so many tries.
+fn tell_dive(case: Case<'_>, network: &Network, told: &mut String) -> Option<()> {
+    let tries = case.number(1)?;
+    match dive_to(case.alloc, network, &prices_of(case)?, tries).ok()? {
+        Some(times) => tell_list(&times, told),
+        None => told.push_str(" none").ok(),
     }
 }

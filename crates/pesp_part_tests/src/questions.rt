@@ -1,111 +1,89 @@
-//! Questions to a board.
+//! Questions on parts of the solver.
 
-ghost use Rattle.pesp_tree.specs.Certificates.{IsProblemOf};
+use crate::calls::{ask_made, ask_read, ask_reported, ask_score};
+use crate::flows::{ask_circulation, ask_levels};
+use crate::found::{ask_dive, ask_domains, ask_improvement};
+use crate::given::Case;
+use crate::networks::ask_network;
+use crate::nodes::{ask_node, ask_problem};
+use crate::proposals::ask_proposal;
+use crate::reductions::ask_reduced;
+use crate::rows::network_of;
+use crate::words::look_up;
+use pesp_network::Network;
 
-use crate::lent::{LentJob, number_of, path_of};
-use pesp_board::Board;
-use pesp_cases::spell_pairs;
-use pesp_cert::{Certificate, print};
-use pesp_check::{Verdict, check};
-use pesp_problem::{Instance, Pair};
-use pesp_stream::Counted;
-use std::alloc::Global;
+/// What a question is about.
+#[derive(Clone, Copy)]
+enum Part {
+    Itself,
+    Domains,
+    Dive,
+    Improvement,
+    Circulation,
+    Proposal,
+    Reduced,
+    Problem,
+    Node,
+    Levels,
+    Read,
+    Score,
+    Reported,
+    Made,
+}
 
-/// A value, or `none`.
-fn told(alloc: Global, value: Option<u64>) -> Option<String> {
-    match value {
-        Some(value) => format!(in alloc; "{value}").ok(),
-        None => String::from_str(alloc, "none").ok(),
+/// The first word of each question.
+const PARTS: [(&str, Part); 14] = [
+    ("network", Part::Itself),
+    ("domains", Part::Domains),
+    ("dive", Part::Dive),
+    ("improve", Part::Improvement),
+    ("circulation", Part::Circulation),
+    ("proposed", Part::Proposal),
+    ("reduced", Part::Reduced),
+    ("problem", Part::Problem),
+    ("node", Part::Node),
+    ("levels", Part::Levels),
+    ("read", Part::Read),
+    ("score", Part::Score),
+    ("reported", Part::Reported),
+    ("made", Part::Made),
+];
+
+/// Tells the answer to a question of this first word.
+pub fn ask_part(case: Case<'_>, word: &str, told: &mut String) -> Option<()> {
+    match look_up(&PARTS, word)? {
+        Part::Reduced => ask_reduced(case, told),
+        Part::Problem => ask_problem(case, told),
+        Part::Node => ask_node(case, told),
+        Part::Levels => ask_levels(case, told),
+        Part::Read => ask_read(case, told),
+        Part::Score => ask_score(case, told),
+        Part::Reported => ask_reported(case, told),
+        Part::Made => ask_made(case, told),
+        part => ask_over_network(case, part, told),
     }
 }
 
-/// A question and its answer: `best`, `least`, `open`, `problem`, `leaf JOB` or `path JOB`.
-pub(crate) fn ask(
-    alloc: Global,
-    board: &Board,
-    lent: &[LentJob],
-    words: &[&str],
-) -> Option<String> {
-    match *words.get(0)? {
-        "best" => told(alloc, board.best()),
-        "least" => told(alloc, board.least()),
-        "open" => format!(in alloc; "{} leaves", board.open_leaves()).ok(),
-        "leaf" => leaf(alloc, board, number_of(lent, words)?),
-        "path" => path(alloc, lent, words),
-        "problem" => size(alloc, board),
+/// Tells the answer to a question over the given network, or why there is none.
+fn ask_over_network(case: Case<'_>, part: Part, told: &mut String) -> Option<()> {
+    match network_of(case)? {
+        Ok(network) => {
+            let done = answer(case, &network, part, told);
+            drop(network);
+            done
+        }
+        Err(refusal) => write!(told, " {refusal:?}").ok(),
+    }
+}
+
+fn answer(case: Case<'_>, network: &Network, part: Part, told: &mut String) -> Option<()> {
+    match part {
+        Part::Itself => ask_network(case, network, told),
+        Part::Domains => ask_domains(case, network, told),
+        Part::Dive => ask_dive(case, network, told),
+        Part::Improvement => ask_improvement(case, network, told),
+        Part::Circulation => ask_circulation(case, network, told),
+        Part::Proposal => ask_proposal(case, network, told),
         _ => None,
-    }
-}
-
-/// The period of the board's problem, and how many cycles it has.
-fn size(alloc: Global, board: &Board) -> Option<String> {
-    let period = board.problem().network().period();
-    let cycles = board.problem().table().len();
-    format!(in alloc; "period {period}, {cycles} cycles").ok()
-}
-
-/// The path of the job that the second word names.
-fn path(alloc: Global, lent: &[LentJob], words: &[&str]) -> Option<String> {
-    String::from_str(alloc, path_of(lent, number_of(lent, words)?)?).ok()
-}
-
-/// The value and the pairs of a job's leaf.
-fn leaf(alloc: Global, board: &Board, number: u64) -> Option<String> {
-    match board.job_leaf(number) {
-        Some((value, [])) => format!(in alloc; "value {value}, no pairs").ok(),
-        Some((value, pairs)) => spell_leaf(alloc, value, pairs),
-        None => String::from_str(alloc, "not lent").ok(),
-    }
-}
-
-fn spell_leaf(alloc: Global, value: u64, pairs: &[Pair]) -> Option<String> {
-    let pairs = spell_pairs(alloc, pairs)?;
-    format!(in alloc; "value {value}, pairs {pairs}").ok()
-}
-
-/// The certificate so far, a `/` for each end of a line.
-pub(crate) fn certified(alloc: Global, instance: &Instance, board: &Board) -> Option<String>
-    requires { IsProblemOf instance.now board.now.problem }
-{
-    let certificate = board.certificate(alloc, instance).ok()?;
-    let told = printed(alloc, &certificate);
-    drop(certificate);
-    told
-}
-
-fn printed(alloc: Global, certificate: &Certificate) -> Option<String> {
-    let mut writer = Counted::new(Vec::new(alloc));
-    print(certificate, &mut writer).ok()?;
-    joined(alloc, &writer.into_inner())
-}
-
-/// The lines of a text, each with a `/` for its end.
-fn joined(alloc: Global, bytes: &[u8]) -> Option<String> {
-    let mut text = String::new(alloc);
-    for byte in bytes {
-        let letter = if *byte == b'\n' {
-            '/'
-        } else {
-            char::from(*byte)
-        };
-        text.push(letter).ok()?;
-    }
-    Some(text)
-}
-
-/// Empty where the checker accepts what is certified so far, else what it says.
-pub(crate) fn fault_of(alloc: Global, instance: &Instance, board: &Board) -> Option<String>
-    requires { IsProblemOf instance.now board.now.problem }
-{
-    let certificate = board.certificate(alloc, instance).ok()?;
-    let fault = spell_fault(alloc, instance, &certificate);
-    drop(certificate);
-    fault
-}
-
-fn spell_fault(alloc: Global, instance: &Instance, certificate: &Certificate) -> Option<String> {
-    match check(alloc, instance, certificate).ok()? {
-        Verdict::Accepted => Some(String::new(alloc)),
-        Verdict::Refused(refusal) => format!(in alloc; ", and not accepted: {refusal:?}").ok(),
     }
 }

@@ -1,79 +1,48 @@
 //! What is left of an instance, and times and walks that are lowered and lifted.
 
-ghost use Rattle.std.specs.Prelude.{◌≡◌, IsTrue, IfSome};
+ghost use Rattle.std.specs.Prelude.{◌≡◌, IfSome};
 ghost use Rattle.pesp_problem.specs.Timetables.{IsTimetable};
 ghost use Rattle.pesp_problem.specs.NetTimetables.{IsNetTimetable};
 ghost use Rattle.pesp_problem.specs.Walks.{IsWalk};
 ghost use Rattle.pesp_network.specs.Networks.{arcs_of_network, net_of_network};
 
-use crate::given::{instance_of, list_of};
-use crate::networks::spell_later;
-use pesp_cases::spell_round;
+use crate::given::Case;
+use crate::networks::tell_later;
+use crate::rows::instance_of;
+use crate::spelling::tell_round;
+use crate::words::look_up;
 use pesp_network::{NetRow, Network};
 use pesp_problem::{Instance, Score, Walk, score};
 use pesp_reduce::{Reduced, reduce};
 use std::alloc::Global;
 
-/// A question to what is left of the instance.
-pub(crate) fn ask_reduced(alloc: Global, lines: &[&str], words: &[&str]) -> Option<String> {
-    let instance = instance_of(alloc, lines, "activity")?;
-    let told = answer(alloc, &instance, lines, words);
+/// What is asked of what is left.
+#[derive(Clone, Copy)]
+enum Asked {
+    Size,
+    Loop,
+    Origin,
+    Lifted,
+    Lowered,
+    Costs,
+}
+
+/// The second word of each question.
+const ASKED: [(&str, Asked); 6] = [
+    ("size", Asked::Size),
+    ("loop", Asked::Loop),
+    ("origin", Asked::Origin),
+    ("walk", Asked::Lifted),
+    ("lowered", Asked::Lowered),
+    ("costs", Asked::Costs),
+];
+
+/// Tells the answer to a question to what is left of the instance.
+pub(crate) fn ask_reduced(case: Case<'_>, told: &mut String) -> Option<()> {
+    let instance = instance_of(case)?;
+    let done = tell_reduced(case, &instance, told);
     drop(instance);
-    told
-}
-
-fn answer(alloc: Global, instance: &Instance, lines: &[&str], words: &[&str]) -> Option<String> {
-    match reduced(alloc, instance) {
-        Some(left) => {
-            let told = ask_left(alloc, instance, &left, lines, words);
-            drop(left);
-            told
-        }
-        None => None,
-    }
-}
-
-fn ask_left(
-    alloc: Global,
-    instance: &Instance,
-    left: &Reduced,
-    lines: &[&str],
-    words: &[&str],
-) -> Option<String>
-    requires { left.now.original ≡ instance.now }
-{
-    match list_of(alloc, lines, "times") {
-        Some(times) => ask_times(alloc, instance, left, &times, words),
-        None => ask_rows(alloc, left, words),
-    }
-}
-
-/// A question where times are given.
-fn ask_times(
-    alloc: Global,
-    instance: &Instance,
-    left: &Reduced,
-    times: &[u32],
-    words: &[&str],
-) -> Option<String>
-    requires { left.now.original ≡ instance.now }
-{
-    match *words.get(1)? {
-        "lowered" => lowered(alloc, instance, left, times),
-        "costs" => costs(alloc, instance, left, times),
-        _ => ask_rows(alloc, left, words),
-    }
-}
-
-/// A question to the rows that are left.
-fn ask_rows(alloc: Global, left: &Reduced, words: &[&str]) -> Option<String> {
-    match *words.get(1)? {
-        "size" => size(alloc, left),
-        "loop" => spell_loop(alloc, left),
-        "origin" => spell_origin(alloc, left),
-        "walk" => spell_walk(alloc, left),
-        _ => None,
-    }
+    done
 }
 
 fn reduced(alloc: Global, instance: &Instance) -> Option<Reduced>
@@ -82,36 +51,55 @@ fn reduced(alloc: Global, instance: &Instance) -> Option<Reduced>
     reduce(alloc, instance).ok()
 }
 
-fn size(alloc: Global, left: &Reduced) -> Option<String> {
-    let events = left.network().events();
-    let rows = left.network().rows().len();
-    format!(in alloc; "{events} events, {rows} rows").ok()
+fn tell_reduced(case: Case<'_>, instance: &Instance, told: &mut String) -> Option<()> {
+    match reduced(case.alloc, instance) {
+        Some(left) => {
+            let done = answer(case, instance, &left, told);
+            drop(left);
+            done
+        }
+        None => None,
+    }
+}
+
+fn answer(case: Case<'_>, instance: &Instance, left: &Reduced, told: &mut String) -> Option<()>
+    requires { left.now.original ≡ instance.now }
+{
+    let alloc = case.alloc;
+    match look_up(&ASKED, case.word(0)?)? {
+        Asked::Size => tell_size(left.network(), told),
+        Asked::Loop => tell_loop(left.network(), told),
+        Asked::Origin => write!(told, " {}", only_row(left.network())?.origin).ok(),
+        Asked::Lifted => tell_round(alloc, lifted_walk(alloc, left)?.rows(), told),
+        Asked::Lowered => tell_lowered(alloc, instance, left, &case.list("times")?, told),
+        Asked::Costs => tell_costs(alloc, instance, left, &case.list("times")?, told),
+    }
+}
+
+fn tell_size(network: &Network, told: &mut String) -> Option<()> {
+    let events = network.events();
+    let rows = network.rows().len();
+    write!(told, " {events} events, {rows} rows").ok()
 }
 
 /// The only row that is left.
-fn only_row(left: &Reduced) -> Option<NetRow> {
-    match left.network().rows() {
+fn only_row(network: &Network) -> Option<NetRow> {
+    match network.rows() {
         [row] => Some(*row),
         _ => None,
     }
 }
 
-/// The only row that is left, from an event to itself: its span, and what remains of its lower bound.
-fn spell_loop(alloc: Global, left: &Reduced) -> Option<String> {
-    let row = only_row(left)?;
+/// Tells of the only row that is left, from an event to itself.
+/// Told are its span, and what remains of its lower bound.
+fn tell_loop(network: &Network, told: &mut String) -> Option<()> {
+    let row = only_row(network)?;
     if row.tail != row.head {
         return None;
     }
     let span = row.span;
-    let period = i64::from(left.network().period());
-    let lower = row.lower.checked_rem_euclid(period)?;
-    format!(in alloc; "lower {lower}, span {span}").ok()
-}
-
-/// The row of the instance that the only row that is left comes from.
-fn spell_origin(alloc: Global, left: &Reduced) -> Option<String> {
-    let origin = only_row(left)?.origin;
-    format!(in alloc; "{origin}").ok()
+    let lower = row.lower.checked_rem_euclid(i64::from(network.period()))?;
+    write!(told, " lower {lower}, span {span}").ok()
 }
 
 /// The cost of times, None where they are no timetable.
@@ -132,12 +120,18 @@ fn low_times(alloc: Global, left: &Reduced, times: &[u32]) -> Option<Vec<u32>>
     left.lower_times(alloc, times).ok()
 }
 
-/// The times of what is left, each less the first one.
-fn lowered(alloc: Global, instance: &Instance, left: &Reduced, times: &[u32]) -> Option<String>
+/// Tells the times of what is left, each less the first one.
+fn tell_lowered(
+    alloc: Global,
+    instance: &Instance,
+    left: &Reduced,
+    times: &[u32],
+    told: &mut String,
+) -> Option<()>
     requires { left.now.original ≡ instance.now }
 {
     cost_of(instance, times)?;
-    spell_later(alloc, &low_times(alloc, left, times)?, instance.period())
+    tell_later(&low_times(alloc, left, times)?, instance.period(), told)
 }
 
 /// The cost of the times of what is left, lifted.
@@ -147,13 +141,19 @@ fn lifted_cost(alloc: Global, instance: &Instance, left: &Reduced, low: &[u32]) 
     cost_of(instance, &left.lift_times(alloc, low).ok()?)
 }
 
-/// The cost of the times, and of the same times lowered and lifted.
-fn costs(alloc: Global, instance: &Instance, left: &Reduced, times: &[u32]) -> Option<String>
+/// Tells the cost of the times, and of the same times lowered and lifted.
+fn tell_costs(
+    alloc: Global,
+    instance: &Instance,
+    left: &Reduced,
+    times: &[u32],
+    told: &mut String,
+) -> Option<()>
     requires { left.now.original ≡ instance.now }
 {
     let before = cost_of(instance, times)?;
     let after = lifted_cost(alloc, instance, left, &low_times(alloc, left, times)?)?;
-    format!(in alloc; "{before}, {after} lowered and lifted").ok()
+    write!(told, " {before}, {after} lowered and lifted").ok()
 }
 
 /// A walk of what is left.
@@ -169,8 +169,4 @@ fn a_walk(alloc: Global, network: &Network) -> Option<Walk>
 /// A walk of what is left, lifted.
 fn lifted_walk(alloc: Global, left: &Reduced) -> Option<Walk> {
     left.lift_walk(alloc, &a_walk(alloc, left.network())?).ok()
-}
-
-fn spell_walk(alloc: Global, left: &Reduced) -> Option<String> {
-    spell_round(alloc, lifted_walk(alloc, left)?.rows())
 }

@@ -3,7 +3,7 @@
 use pesp_forest::Frame;
 use pesp_inequalities::{Inequality, Pass};
 use pesp_network::Network;
-use pesp_sharpening::{LeafMultipliers, SharpLine, Sharpened};
+use pesp_offset_tree::{LeafMultipliers, SharpLine, Sharpened};
 use std::alloc::{AllocError, Global};
 
 /// An inequality of a root, by its number among the walks that are told. The multiplier is in units of the root's scale. The gain

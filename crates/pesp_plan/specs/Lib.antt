@@ -1,2 +1,2 @@
 pub mod Planning
-pub mod Beginning
+pub mod Looks

@@ -3,22 +3,21 @@
 ghost use Rattle.std.specs.Prelude.{◌≡◌, ◌≢◌, ◌<◌, ◌^◌, ◌↔◌, None, IsTrue, OnOk, IfErr, ⊤};
 ghost use Rattle.std.specs.Io.KnownBytes.{Appends};
 ghost use Rattle.pesp_stream.specs.Counts.{FewerThan};
-ghost use Rattle.pesp_check_run.specs.Devices.{over};
+ghost use Rattle.pesp_check.specs.Devices.{over};
 ghost use Rattle.pesp_runs.specs.Causes.{OutCause};
 ghost use Rattle.pesp_tasks.specs.Solving.{SolutionStops};
 ghost use Rattle.pesp_plan.specs.Planning.{KeepsAndWrites, KeepsOn};
-ghost use Rattle.pesp_plan.specs.Beginning.{FromStanding, FromStandingCause};
+ghost use Rattle.pesp_old_times.specs.Beginning.{FromStanding, FromStandingCause};
 
-use crate::beginning::begin_with;
-use crate::listener::Listener;
 use crate::{KeptPlan, Overseer, Shelf};
 use pesp_cert::{Fronted, parse_fronted};
-use pesp_check::check_sharp;
 use pesp_judges::{Refusal, Verdict};
+use pesp_old_times::{Listener, begin_with};
 use pesp_problem::Instance;
 use pesp_runs::{Fault, MOST_TEXT, OnBase, Search, read_whole_instance};
 use pesp_sharp_search::Sharpener;
 use pesp_stream::{Sink, Source, read_all};
+use pesp_whole_check::check_sharp;
 use std::alloc::Global;
 
 /// Whether a certificate is of another period than an instance. Its lemmas may be judged before its period, and a check then tells
@@ -30,7 +29,7 @@ fn has_other_period(instance: &Instance, base: &Fronted) -> bool
 }
 
 /// Reads an instance and then the certificate that stands where a plan is kept, and makes the plan. It goes on from the certificate
-/// where that is valid for the instance. One of other activities gives the times to begin with, as `run_from_old` takes them, and a
+/// where that is valid for the instance. One of other activities gives the times to begin with, as `FromOldTimes` reads them, and a
 /// listener is told of it; what stood there is replaced by the first certificate that is found. `Certificate` where the text is
 /// none's, and `Base` where it has another period: then what stands there stays.
 pub fn run_on_standing<

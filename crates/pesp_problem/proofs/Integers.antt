@@ -1,5 +1,5 @@
 -- Laws of the whole numbers, their order, divisions and sums. A whole number z is read as up z less down z, as `ints` does.
-use Rattle.std.proofs.Common.{◌≡◌, ℕ, zero, suc, ◌+◌, ◌*◌, ◌<◌, ◌⊎◌, ◌≢◌, refl, ap, arith, sym, ◌∙◌, inl, inr}
+use Rattle.std.proofs.Common.{◌≡◌, ℕ, zero, suc, ◌+◌, ◌*◌, ◌<◌, ◌⊎◌, ◌≢◌, refl, add-one, ap, arith, sym, ◌∙◌, inl, inr}
 use Rattle.std.specs.Prelude.{ℤ, pos, negsuc, ◌+ℤ◌, ◌-ℤ◌, ◌*ℤ◌, neg_ℤ, ◌≤ℤ◌, unsigned_abs}
 use Rattle.std.specs.Int.{int_min, int_max, int_rem_euclid, int_div_euclid}
 use Rattle.std.proofs.lemmas.Int.{ints, clamps, by_lt_z}
@@ -160,6 +160,10 @@ sum_below-zero (suc n) f h = omega (arith, ints, sum_below-zero n f (λ i l. h i
 
 pub lt-or-same : (k n : ℕ) → k < n + 1 → (k < n) ⊎ (k ≡ n)
 lt-or-same k n h = grind arith
+
+-- a sum so far and the next term
+pub sum_below-more : (f : ℕ → ℤ) (k : ℕ) (sum here next : ℤ) → sum ≡ sum_below k f → here ≡ f k → next ≡ sum +ℤ here → next ≡ sum_below (k + 1) f
+sum_below-more f k sum here next h e g = g ∙ cong_add h e ∙ sym (ap (λ (j : ℕ). sum_below j f) (add-one k))
 
 -- only one term is not 0
 pub sum_below-single : (n k : ℕ) (f : ℕ → ℤ) → k < n → ((i : ℕ) → i < n → i ≢ k → f i ≡ pos 0) → sum_below n f ≡ f k

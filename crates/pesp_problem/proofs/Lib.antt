@@ -31,4 +31,4 @@ pub mod WorkedMarks
 pub mod Along
 pub mod Passes
 pub mod Small
-pub mod RowValues
+pub mod Flowing

@@ -1,15 +1,13 @@
 -- The sizes of what is read at a row.
-use Rattle.std.proofs.Common.{ℕ, ◌<◌, ◌≤◌, List, length, arith, subst, FitsSigned, to_z, of_z, ◌≡◌, ◌^◌}
-use Rattle.std.specs.Prelude.{ℤ, ◌-ℤ◌, unsigned_abs, All}
-use Rattle.std.specs.Int.{w64, w128, int_min}
+use Rattle.std.proofs.Common.{ℕ, ◌<◌, ◌≤◌, List, length, arith, subst, FitsSigned, to_z, of_z, ◌≡◌}
+use Rattle.std.specs.Prelude.{ℤ, unsigned_abs, All}
+use Rattle.std.specs.Int.{w64, int_min}
 use Rattle.std.proofs.lemmas.Int.{ints, clamps, to_z-of_z}
 use Rattle.std.proofs.lemmas.List.{length-map, get_or-map}
 use Rattle.pesp_problem.specs.declared.arc.Arc.{Arc}
 use Rattle.pesp_problem.specs.declared.row.SignedRow.{SignedRow}
 use Rattle.pesp_problem.specs.Arcs.{arc_at, no_arc}
 use Rattle.pesp_problem.specs.Walks.{RowExists, AreRows}
-use Rattle.pesp_problem.specs.Nodes.{slack_range}
-use Rattle.pesp_problem.specs.Ranges.{AreSlackEnds}
 use Rattle.pesp_problem.specs.declared.marked.MarkedRow.{MarkedRow}
 use Rattle.pesp_problem.specs.Marked.{signed_rows}
 use Rattle.pesp_problem.specs.Terms.{AreSmallArcs}
@@ -18,10 +16,6 @@ pub arc_small : (arcs : List Arc) (i : ℕ) → AreSmallArcs arcs → i < length
     → (unsigned_abs (arc_at arcs i).lower ≤ 1020000) × ((arc_at arcs i).weight ≤ 1000000000)
 arc_small arcs i are l = are.each i no_arc l
 
-pub range_small : (slacks : List (ℕ × ℕ)) (i : ℕ) → AreSlackEnds slacks → i < length slacks
-    → ((slack_range slacks i).0 ≤ 10000) × ((slack_range slacks i).1 ≤ 10000)
-range_small slacks i ends l = ends i (0, 0) l
-
 -- the rows of a marked walk exist
 pub marked_exist : (arcs : List Arc) (walk : List MarkedRow) → AreRows arcs (signed_rows walk) → All (λ s. RowExists arcs s.signed) walk
 marked_exist arcs walk rows k d l =
@@ -29,16 +23,9 @@ marked_exist arcs walk rows k d l =
     let P : SignedRow → Type 0 = RowExists arcs in
     subst P (get_or-map (λ (s : MarkedRow). s.signed) walk k d d.signed l) (rows k d.signed (omega (arith, long)))
 
--- a number that fits is kept
-pub kept : (z : ℤ) (m : ℕ) → unsigned_abs z ≤ m → m ≤ 10 ^ 37 → to_z w128 (of_z w128 z) ≡ z
-kept z m h l = let fits : FitsSigned w128 z = omega (arith, ints) in to_z-of_z w128 z fits
-
 -- the lesser of two numbers is no larger than both
 pub lesser_small : (z a b : ℤ) (m : ℕ) → z ≡ int_min a b → unsigned_abs a ≤ m → unsigned_abs b ≤ m → unsigned_abs z ≤ m
 lesser_small z a b m e h k = omega (arith, ints, clamps)
 
 pub kept_lower : (z : ℤ) → unsigned_abs z ≤ 1020000 → to_z w64 (of_z w64 z) ≡ z
 kept_lower z h = let fits : FitsSigned w64 z = omega (arith, ints) in to_z-of_z w64 z fits
-
-pub less : {a b c d : ℤ} → a ≡ c → b ≡ d → a -ℤ b ≡ c -ℤ d
-less h k = cc

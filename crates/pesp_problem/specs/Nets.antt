@@ -1,5 +1,5 @@
 -- Net counts of a walk, each row once, and working numbers.
-use Rattle.std.specs.Prelude.{◌≡◌, ℕ, ◌<◌, ◌≤◌, List, [], fold, length, slice_index_or, ℤ, pos, ◌+ℤ◌, unsigned_abs, All, sum_by}
+use Rattle.std.specs.Prelude.{◌≡◌, ℕ, ◌<◌, ◌≤◌, List, [], fold, length, slice_index_or, ℤ, pos, ◌+ℤ◌, unsigned_abs, All, sum_by, if◌then◌else◌, ◌==◌}
 use Rattle.pesp_problem.specs.declared.limits.TheConstants.{MOST_SIGNED_ROWS}
 use Rattle.pesp_problem.specs.declared.row.SignedRow.{SignedRow}
 use Rattle.pesp_problem.specs.Sums.{sum_below}
@@ -14,6 +14,10 @@ AreZeros numbers = (i : ℕ) → i < length numbers → slice_index_or numbers i
 -- the sum of a term over the entries
 abbrev pub sum_of : (ℕ → ℤ → ℤ) → List NetCount → ℤ
 sum_of term counts = fold (λ z e. z +ℤ term e.place e.count) (pos 0) counts
+
+-- the entries at place i, added up
+abbrev pub count_of : List NetCount → ℕ → ℤ
+count_of counts i = sum_of (λ place count. if place == i then count else pos 0) counts
 
 -- the sum of the counts by amount
 abbrev pub amount : List NetCount → ℕ

@@ -1,13 +1,9 @@
--- What a row adds to the value of a leaf, by its flow and its rates.
-use Rattle.std.specs.Prelude.{ℕ, ◌<◌, ◌≤◌, ◌^◌, List, length, slice_index_or, ℤ, pos, ◌-ℤ◌, ◌*ℤ◌, unsigned_abs, Bool, All}
+-- Flows of rows, and what a row's slack costs beyond its flow and the gains.
+use Rattle.std.specs.Prelude.{ℕ, ◌<◌, ◌≤◌, ◌^◌, List, length, slice_index_or, ℤ, pos, ◌-ℤ◌, ◌*ℤ◌, unsigned_abs, All}
 use Rattle.std.specs.Int.{int_min}
 use Rattle.pesp_problem.specs.declared.limits.TheConstants.{MOST_LOWER, MOST_ROWS, MOST_WEIGHT}
 use Rattle.pesp_problem.specs.declared.arc.Arc.{Arc}
-use Rattle.pesp_problem.specs.Sums.{sum_below}
-use Rattle.pesp_problem.specs.Arcs.{arc_at}
-use Rattle.pesp_problem.specs.Nodes.{slack_range, weight_of}
 use Rattle.pesp_problem.specs.declared.rates.Rates.{Rates}
-use Rattle.pesp_problem.specs.Rates.{rates_at}
 
 -- the number at a place, 0 past the end
 abbrev pub number_at : List ℤ → ℕ → ℤ
@@ -28,13 +24,3 @@ lesser_excess left range rates =
     int_min
     (left *ℤ pos range.0 -ℤ rates.flipped *ℤ (pos range.1 -ℤ pos range.0))
     (left *ℤ pos range.1 -ℤ rates.plain *ℤ (pos range.1 -ℤ pos range.0))
-
--- and less the flow times the lower bound
-abbrev pub row_term : Arc → ℕ × ℕ → Bool → ℕ → ℤ → Rates → ℤ
-row_term arc range weighted scale flow rates = lesser_excess (pos scale *ℤ weight_of weighted arc -ℤ flow) range rates -ℤ flow *ℤ arc.lower
-
--- the sum of these over all rows
-abbrev pub rows_sum : List Arc → List (ℕ × ℕ) → Bool → ℕ → List ℤ → List Rates → ℤ
-rows_sum arcs slacks weighted scale flows rates =
-    sum_below (length arcs) (λ i. row_term (arc_at arcs i) (slack_range slacks i) weighted scale
-    (number_at flows i) (rates_at rates i))

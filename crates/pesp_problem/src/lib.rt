@@ -2,13 +2,14 @@
 //!
 //! Walks: the net counts of a walk along rows, the path of a walk over the nodes of a tree, what a marked walk gains at a
 //! node by the cycle inequality, and what a leaf is worth that marked walks sharpen. The checker and the solver's nodes are
-//! told by the same types, definitions and lemmas, and each has bodies of its own.
+//! told by the same types, definitions and lemmas. Both add flows up by one call; else each has bodies of its own.
 #![tactic(auto)]
 
 mod arc;
 mod bases;
 mod cut;
 pub mod exact;
+mod flows;
 mod grade;
 mod instance;
 pub mod laws;
@@ -22,12 +23,13 @@ mod pair;
 mod path;
 mod rates;
 mod row;
-mod rows;
+mod share;
 mod walk;
 mod worth;
 
 pub use arc::{Arc, arc_of};
 pub use cut::{Cut, Side};
+pub use flows::add_flow;
 pub use grade::Score;
 pub use instance::Instance;
 pub use limits::{
@@ -42,6 +44,6 @@ pub use pair::{Pair, Pairs};
 pub use path::{Branch, Change};
 pub use rates::{Rates, add_walk, clear, no_rates};
 pub use row::{Row, SignedRow};
-pub use rows::rows_sum;
+pub use share::Share;
 pub use walk::Walk;
 pub use worth::{score, slack_of};

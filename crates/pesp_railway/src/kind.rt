@@ -2,6 +2,7 @@
 
 use crate::duration::is_free;
 use crate::network::{RailwayNetwork, StationPlace};
+use crate::step::Direction;
 use pesp_problem::Row;
 
 /// What an activity is to a line.
@@ -51,6 +52,20 @@ pub fn kind_on(
         (true, false) => Some(ActivityKind::Leave),
         (false, true) => Some(ActivityKind::Join),
         (false, false) => None,
+    }
+}
+
+/// In which direction of a line an activity leads.
+pub fn direction_of(network: &RailwayNetwork<'_>, row: &Row) -> Direction {
+    let (Some(tail), Some(head)) = (network.at(row.tail), network.at(row.head)) else {
+        return Direction::Nowhere;
+    };
+    if tail.line != head.line || tail.station == head.station {
+        Direction::Nowhere
+    } else if tail.station < head.station {
+        Direction::Out
+    } else {
+        Direction::Back
     }
 }
 

@@ -1,6 +1,8 @@
-//! The railway that names tell: its lines and stations, where events stand, what activities are there, and the ways of trains.
+//! The railway that names tell: its lines and stations, what activities are there, the ways of trains, and what is told of each
+//! event along them.
 #![tactic(auto)]
 
+mod changes;
 mod distances;
 mod duration;
 mod kind;
@@ -8,10 +10,11 @@ mod links;
 mod network;
 mod step;
 mod steps;
+mod told;
 mod ways;
 
 pub use duration::duration_of;
-pub use kind::{ActivityKind, is_change, kind_on};
+pub use kind::{ActivityKind, direction_of, kind_on};
 pub use network::{Line, RailwayNetwork, StationPlace};
 pub use step::{Direction, Halt, WayEvent};
-pub use steps::steps_of;
+pub use told::{Told, told_of_events};

@@ -1,6 +1,7 @@
 //! The activities by which trains go on from event to event.
 
 use crate::duration::is_free;
+use crate::kind::direction_of;
 use crate::network::RailwayNetwork;
 use crate::step::{Direction, Halt};
 use pesp_problem::{Instance, Row};
@@ -14,15 +15,6 @@ const RANKS: u32 = 4;
 pub struct TrainLinks {
     ahead: Vec<Option<usize>>,
     behind: Vec<Option<usize>>,
-}
-
-/// No activity for each event.
-fn none_for(alloc: Global, instance: &Instance) -> Result<Vec<Option<usize>>, AllocError> {
-    let mut links = Vec::new(alloc);
-    for _ in instance.events() {
-        links.push(None)?;
-    }
-    Ok(links)
 }
 
 /// The rank of an activity by which a train may go on, those of the least rank first: what runs before what stands, and what
@@ -42,15 +34,6 @@ fn rank_of(network: &RailwayNetwork<'_>, period: u32, row: &Row) -> Option<u32> 
     }
 }
 
-/// In which direction an activity leads.
-fn direction_of(network: &RailwayNetwork<'_>, row: &Row) -> Direction {
-    match (network.at(row.tail), network.at(row.head)) {
-        (Some(tail), Some(head)) if tail.station < head.station => Direction::Out,
-        (Some(tail), Some(head)) if tail.station > head.station => Direction::Back,
-        _ => Direction::Nowhere,
-    }
-}
-
 impl TrainLinks {
     /// The links of an instance: each event has at most one ahead and one behind, those of the least rank. A train that turns
     /// round at a station doesn't go on there.
@@ -59,9 +42,10 @@ impl TrainLinks {
         instance: &Instance,
         network: &RailwayNetwork<'_>,
     ) -> Result<TrainLinks, AllocError> {
+        let events = instance.events().len();
         let mut links = TrainLinks {
-            ahead: none_for(alloc, instance)?,
-            behind: none_for(alloc, instance)?,
+            ahead: vec![in alloc; None; events]?,
+            behind: vec![in alloc; None; events]?,
         };
         for rank in 0..RANKS {
             links.add_rank(instance, network, rank);

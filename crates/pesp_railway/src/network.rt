@@ -126,18 +126,14 @@ impl<'a> RailwayNetwork<'a> {
 
     /// No lines: each event stands nowhere.
     fn without_lines(alloc: Global, instance: &Instance) -> Result<RailwayNetwork<'a>, AllocError> {
-        let mut network = RailwayNetwork {
+        let events = instance.events().len();
+        Ok(RailwayNetwork {
             lines: Vec::new(alloc),
-            places: Vec::new(alloc),
-            owners: Vec::new(alloc),
+            places: vec![in alloc; None; events]?,
+            owners: vec![in alloc; ""; events]?,
             left: 0,
             is_corridor: false,
-        };
-        for _ in instance.events() {
-            network.places.push(None)?;
-            network.owners.push("")?;
-        }
-        Ok(network)
+        })
     }
 
     /// Where a station stands on the first line.

@@ -1,6 +1,7 @@
 //! Events on the ways of trains.
 
-use std::fmt;
+ghost use Rattle.std.specs.Prelude.{◌≡◌};
+ghost use Rattle.pesp_railway.specs.Words.{direction_word, halt_word};
 
 /// In which direction a train goes along its line.
 #[derive(Clone, Copy, PartialEq, Eq)]
@@ -15,7 +16,9 @@ pub enum Direction {
 
 impl Direction {
     /// The word for it; empty where the train goes nowhere.
-    pub fn word(self) -> &'static str {
+    pub fn word(self) -> &'static str
+        ensures { result.now ≡ direction_word self }
+    {
         match self {
             Direction::Out => "out",
             Direction::Back => "back",
@@ -30,12 +33,6 @@ impl Direction {
             Direction::Back => 1,
             Direction::Nowhere => 2,
         }
-    }
-}
-
-impl fmt::Display for Direction {
-    fn fmt<W: fmt::Write>(&self, f: &mut fmt::Formatter<W>) -> fmt::Result {
-        f.write_str(self.word())
     }
 }
 
@@ -54,7 +51,9 @@ pub enum Halt {
 
 impl Halt {
     /// The word for it; empty where the train neither comes nor leaves.
-    pub fn word(self) -> &'static str {
+    pub fn word(self) -> &'static str
+        ensures { result.now ≡ halt_word self }
+    {
         match self {
             Halt::Arrival => "arrival",
             Halt::Departure => "departure",

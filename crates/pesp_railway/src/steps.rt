@@ -8,7 +8,7 @@ use crate::ways::{Way, cut_rings, numbers_of, ways_of};
 use pesp_problem::Instance;
 use std::alloc::{AllocError, Global};
 
-/// What is known of the ways, with the number of the one that is gone along.
+/// What is known of the ways.
 #[derive(Clone, Copy)]
 struct WayProgress<'a> {
     links: &'a TrainLinks,

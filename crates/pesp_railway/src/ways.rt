@@ -41,10 +41,7 @@ fn reached_of(
     links: &TrainLinks,
     instance: &Instance,
 ) -> Result<Vec<bool>, AllocError> {
-    let mut reached = Vec::new(alloc);
-    for _ in instance.events() {
-        reached.push(false)?;
-    }
+    let mut reached = vec![in alloc; false; instance.events().len()]?;
     for event in 0..numbers_of(instance) {
         if links.begins_at(event) {
             mark_from(&mut reached, links, instance, event);

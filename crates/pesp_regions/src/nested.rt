@@ -1,9 +1,8 @@
 //! Regions of all divisions, each with the regions of the finer one that are inside it.
 
-use crate::region::{Region, WholeNetwork};
 use crate::region_search::RegionSearch;
 use pesp_network::Network;
-use pesp_partition::{Division, Multiplied, Units, Weights};
+use pesp_partition::{Division, Multiplied, Region, Units, Weights, WholeNetwork};
 use pesp_problem::Memory;
 use std::alloc::{AllocError, Global};
 
@@ -43,6 +42,15 @@ fn add_at(sums: &mut [i128], place: u32, part: i128) {
     if let Some(sum) = sums.get_mut(place as usize) {
         *sum = sum.saturating_add(part);
     }
+}
+
+/// So many lists without a number.
+fn empty_lists(alloc: Global, count: usize) -> Result<Vec<Vec<u32>>, AllocError> {
+    let mut lists = Vec::with_capacity(alloc, count)?;
+    for _ in 0..count {
+        lists.push(Vec::new(alloc))?;
+    }
+    Ok(lists)
 }
 
 /// The region of a coarser division that has all rows of an inequality; 0 where there is no coarser division.
@@ -88,10 +96,10 @@ impl<'a> Level<'a> {
 
     /// Adds what rows outside of its regions take, by the regions of a coarser division.
     fn add_rows(&self, parted: Parted<'_>, coarser: Option<&Division>, sums: &mut [i128]) {
-        let rows = parted.network.rows().iter();
-        for (place, (row, weight)) in rows.zip(self.weights.rows.iter()).enumerate() {
+        for (place, row) in parted.network.rows().iter().enumerate() {
             let number = u32::try_from(place).unwrap_or(u32::MAX);
             if self.division.of_row(number).is_none()
+                && let Some(weight) = self.weights.rows.get(place)
                 && *weight < 0
                 && let Some(region) = row_in(coarser, number)
             {
@@ -116,20 +124,28 @@ impl<'a> Level<'a> {
 
     /// For each region of a coarser division the regions inside it.
     fn inner(&self, alloc: Global, coarser: &Division) -> Result<Vec<Vec<u32>>, AllocError> {
-        let mut inner: Vec<Vec<u32>> = Vec::with_capacity(alloc, coarser.sizes.len())?;
-        for _ in 0..coarser.sizes.len() {
-            inner.push(Vec::new(alloc))?;
+        let mut inner = empty_lists(alloc, coarser.sizes.len())?;
+        match self.list_inner(coarser, &mut inner) {
+            Ok(()) => Ok(inner),
+            Err(refused) => {
+                drop(inner);
+                Err(refused)
+            }
         }
-        let regions = self.division.regions.iter();
-        for (own, other) in regions.zip(coarser.regions.iter()) {
-            if let (Some(own), Some(other)) = (own, other)
+    }
+
+    /// Puts each region into the list of the region of a coarser division that it is inside of.
+    fn list_inner(&self, coarser: &Division, inner: &mut [Vec<u32>]) -> Result<(), AllocError> {
+        for (row, own) in self.division.regions.iter().enumerate() {
+            if let Some(own) = own
+                && let Some(Some(other)) = coarser.regions.get(row)
                 && let Some(list) = inner.get_mut(*other as usize)
                 && !list.contains(own)
             {
                 list.push(*own)?;
             }
         }
-        Ok(inner)
+        Ok(())
     }
 }
 

@@ -49,9 +49,9 @@ impl Patch<'_> {
     /// The region's times by the events of the whole network; None for the others.
     fn places(&self, alloc: Global) -> Result<Vec<Option<u32>>, AllocError> {
         let mut places = vec![in alloc; None; self.network.events() as usize]?;
-        for (event, time) in self.events.iter().zip(self.own.iter()) {
+        for (place, event) in self.events.iter().enumerate() {
             if let Some(slot) = places.get_mut(*event as usize) {
-                *slot = Some(*time);
+                *slot = self.own.get(place).copied();
             }
         }
         Ok(places)
@@ -104,8 +104,10 @@ impl Patch<'_> {
     fn shifted(&self, alloc: Global, shift: u32) -> Result<Vec<u32>, AllocError> {
         let period = self.network.period();
         let mut times = Vec::from_slice(alloc, self.times)?;
-        for (event, time) in self.events.iter().zip(self.own.iter()) {
-            if let Some(slot) = times.get_mut(*event as usize) {
+        for (place, event) in self.events.iter().enumerate() {
+            if let Some(time) = self.own.get(place)
+                && let Some(slot) = times.get_mut(*event as usize)
+            {
                 *slot = time.saturating_add(shift).checked_rem(period).unwrap_or(0);
             }
         }

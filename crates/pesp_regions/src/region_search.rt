@@ -1,8 +1,10 @@
 //! The search of a region: a tree of its own, which finds its least timetable or bounds it.
 
-use crate::region::Region;
+use pesp_network::Network;
+use pesp_offset_tree::Sharpened;
+use pesp_partition::Region;
 use pesp_problem::Memory;
-use pesp_sharpening::{Sharpened, Sharpening, Step};
+use pesp_sharpening::{Sharpening, Step};
 use std::alloc::Global;
 use std::mem::replace;
 
@@ -22,7 +24,7 @@ const HEADROOM: u64 = 8;
 #[derive(Drop)]
 pub(crate) struct RegionSearch {
     pub(crate) region: Region,
-    sharpening: Sharpening,
+    sharpening: Box<Sharpening>,
     unit: u32,
     best: Option<u64>,
     /// The times of the least known cost, where the tree met with them and nobody has taken them yet.
@@ -32,10 +34,16 @@ pub(crate) struct RegionSearch {
     is_over: bool,
 }
 
+/// The tree of a network whose weights are in units of which so many make up one.
+fn sharpening_of(alloc: Global, network: &Network, unit: u32) -> Result<Box<Sharpening>, Memory> {
+    let sharpening = Sharpening::in_units(alloc, network, SEED, SCALE, unit)?;
+    Ok(Box::new(alloc, sharpening)?)
+}
+
 impl RegionSearch {
     /// A region whose weights are in units of which so many make up one.
     pub(crate) fn new(alloc: Global, region: Region, unit: u32) -> Result<RegionSearch, Memory> {
-        match Sharpening::in_units(alloc, &region.network, SEED, SCALE, unit) {
+        match sharpening_of(alloc, &region.network, unit) {
             Ok(sharpening) => Ok(RegionSearch {
                 region,
                 sharpening,

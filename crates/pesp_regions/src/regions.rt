@@ -5,14 +5,13 @@ use crate::patching::Patch;
 use crate::region_search::RegionSearch;
 use crate::selection::{Worth, selected, worths_of};
 use crate::sharing::{share_of, size_of, with_inner};
-use crate::told::{Crossing, ToldRegion, ToldRegions};
 use pesp_network::Network;
+use pesp_offset_tree::Sharpened;
 use pesp_partition::{
-    Division, Multiplied, Units, divisions_of, inequalities_of, shift_multipliers, units_for,
+    Crossing, Division, Multiplied, ToldRegion, ToldRegions, Units, divisions_of, inequalities_of,
+    shift_multipliers, units_for,
 };
-use pesp_problem::Memory;
-use pesp_sharpener::Share;
-use pesp_sharpening::Sharpened;
+use pesp_problem::{Memory, Share};
 use std::alloc::{AllocError, Global};
 
 /// Nested regions, and which of them aren't inside another one. What is outside of these is added to their bounds. The
@@ -201,8 +200,8 @@ impl Regions {
     /// Leaves all regions but these, and those inside them, to others.
     fn leave_others(&mut self, own: &[u32]) -> Result<(), AllocError> {
         let are_own = with_inner(self.alloc, &self.nested, own)?;
-        for (region, is_own) in self.nested.iter_mut().zip(are_own.iter()) {
-            if !*is_own {
+        for (place, region) in self.nested.iter_mut().enumerate() {
+            if let Some(false) = are_own.get(place) {
                 region.search.leave();
             }
         }

@@ -1,7 +1,7 @@
 //! A share of regions: those that one search looks at, where others look at the rest.
 
 use crate::nested::Nested;
-use pesp_sharpener::Share;
+use pesp_problem::Share;
 use std::alloc::{AllocError, Global};
 use std::cmp::Reverse;
 

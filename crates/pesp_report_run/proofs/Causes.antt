@@ -13,7 +13,7 @@ use Rattle.pesp_report.specs.declared.refusal.ReportRefusal.TheVariants.{Violate
 use Rattle.pesp_report.specs.Violations.{RefusesViolations, IfWriteFailed, violations_of, violations_text}
 use Rattle.pesp_report.specs.declared.refusal.ViolationsRefusal.{ViolationsRefusal}
 use Rattle.pesp_report.specs.declared.refusal.ViolationsRefusal.TheVariants.{NotTimes as NoTimes, Memory as ViolationsMemory, Write as ViolationsWrite}
-use Rattle.pesp_check_run.specs.Devices.{over}
+use Rattle.pesp_check.specs.Devices.{over}
 use Rattle.pesp_runs.specs.FaultLines.{names_fault, report_fault, violations_fault}
 use Rattle.pesp_runs.specs.Causes.{RowCause, OutCause}
 use Rattle.pesp_report_run.specs.Naming.{NamesCause}
@@ -39,29 +39,29 @@ names_cause NamesMemory told left calls after = tt
 pub timetable_cause : (refusal : ReportRefusal) (p : Pesp) (times : List ℕ) (Failed Front : Type 0)
     → AreTimes p times → Refuses p times refusal → IfBlamed refusal Failed → IfBlamed refusal Front
     → RowCause (report_fault refusal) p times ⊎ OutCause (report_fault refusal)
-    (IsTimetable p times × Failed × Front)
+    (IsTimetable p times × (Failed × Front))
 timetable_cause (Violates row) p times Failed Front are refused failed front = inl refused.1
 timetable_cause NotTimes p times Failed Front are refused failed front = absurd (refused are)
 timetable_cause ReportMemory p times Failed Front are refused failed front = inr tt
-timetable_cause ReportWrite p times Failed Front are refused failed front = inr (refused, failed, front)
+timetable_cause ReportWrite p times Failed Front are refused failed front = inr (refused, (failed, front))
 
 -- violated activities of which nothing went out whole, for memory or because the writer failed
 violations_out : (refusal : ViolationsRefusal) (p : Pesp) (times : List ℕ) (Failed Front : Type 0)
     → AreTimes p times → RefusesViolations p times refusal → IfWriteFailed refusal Failed
-    → IfWriteFailed refusal Front → OutCause (violations_fault refusal) (AreTimes p times × Failed × Front)
+    → IfWriteFailed refusal Front → OutCause (violations_fault refusal) (AreTimes p times × (Failed × Front))
 violations_out NoTimes p times Failed Front are refused failed front = absurd (refused are)
 violations_out ViolationsMemory p times Failed Front are refused failed front = tt
-violations_out ViolationsWrite p times Failed Front are refused failed front = (are, failed, front)
+violations_out ViolationsWrite p times Failed Front are refused failed front = (are, (failed, front))
 
 -- the same of times that are these ones
 pub violations_cause : (refusal : ViolationsRefusal) (p : Pesp) (told times : List ℕ) (naming : Option (ℤ → List ℕ))
     (old new : Option (List ℕ)) (Failed : Type 0) → told ≡ times → AreTimes p times → RefusesViolations p told refusal
     → IfWriteFailed refusal Failed → IfWriteFailed refusal
     (AppendsFront old new (violations_text naming (violations_of p told)))
-    → OutCause (violations_fault refusal) (AreTimes p times × Failed × AppendsFront old new (violations_text naming (violations_of p times)))
+    → OutCause (violations_fault refusal) (AreTimes p times × (Failed × AppendsFront old new (violations_text naming (violations_of p times))))
 violations_cause refusal p told times naming old new Failed same are refused failed front =
     subst (λ (ts : List ℕ). OutCause (violations_fault refusal)
-    (AreTimes p ts × Failed × AppendsFront old new (violations_text naming (violations_of p ts)))) same
+    (AreTimes p ts × (Failed × AppendsFront old new (violations_text naming (violations_of p ts))))) same
     (violations_out refusal p told Failed (AppendsFront old new (violations_text naming (violations_of p told)))
     (subst (λ (ts : List ℕ). AreTimes p ts) (sym same) are) refused failed front)
 

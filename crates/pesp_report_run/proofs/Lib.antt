@@ -1,3 +1,4 @@
 mod Causes
 pub mod Short
 mod Telling
+mod Places

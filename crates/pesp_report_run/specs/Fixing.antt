@@ -1,11 +1,12 @@
 -- What the run that fixes events reads and writes, and when it tells which fault.
-use Rattle.std.specs.Prelude.{◌⊎◌, ℕ, List, [], Option, Some, None}
+use Rattle.std.specs.Prelude.{ℕ, List, [], Option, Some, None}
 use Rattle.pesp_problem.specs.Timetables.{Pesp}
-use Rattle.pesp_timetable.specs.Fixing.{IsText}
-use Rattle.pesp_timetable.specs.declared.refusal.FixRefusal.{FixRefusal}
-use Rattle.pesp_check_run.specs.Devices.{Device, HasFailed, GetsFront}
-use Rattle.pesp_runs.specs.Reading.{ReadsInstance, ReadsTimes}
-use Rattle.pesp_runs.specs.Causes.{InstanceCause, TimesCause, OutCause}
+use Rattle.pesp_report_run.specs.Fixed.{IsText}
+use Rattle.pesp_report_run.specs.declared.fix_refusal.FixRefusal.{FixRefusal}
+use Rattle.pesp_check.specs.Devices.{Device}
+use Rattle.pesp_runs.specs.Reading.{ReadsTimes}
+use Rattle.pesp_runs.specs.Causes.{TimesCause, OutCause}
+use Rattle.pesp_runs.specs.Runs.{OverBaseCause}
 use Rattle.pesp_runs.specs.declared.fault.Fault.{Fault}
 use Rattle.pesp_report_run.specs.Reporting.{WritesSheet}
 
@@ -15,11 +16,8 @@ abbrev pub WritesFixed : Pesp → Option FixRefusal → (List ℕ → Type 0) �
 WritesFixed p None Gets = WritesSheet (IsText p) Gets
 WritesFixed p (Some refusal) Gets = Gets []
 
--- each fault of the run and its cause; the second reader is called only where the first text has an instance
+-- each fault of the run and its cause
 abbrev pub FixCause : Fault → Device → Device → Device → ℕ → Type 0 → Type 0
 FixCause fault reader times_reader writer period uncalled =
-    (InstanceCause fault reader period × uncalled)
-    ⊎ ((p : Pesp) × ReadsInstance reader.old reader.new period p
-    × (TimesCause fault times_reader p
-    ⊎ ((times : List ℕ) × ReadsTimes times_reader.old times_reader.new p times
-    × OutCause fault (HasFailed writer × WritesSheet (IsText p) (GetsFront writer)))))
+    OverBaseCause ReadsTimes TimesCause fault reader times_reader writer period uncalled (λ p times fault cut. OutCause fault cut)
+    (λ p times Gets. WritesSheet (IsText p) Gets)

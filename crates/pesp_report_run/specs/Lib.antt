@@ -4,3 +4,4 @@ pub mod Fixing
 pub mod Naming
 pub mod Told
 pub mod Runs
+pub mod Fixed

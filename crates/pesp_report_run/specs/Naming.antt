@@ -1,5 +1,5 @@
 -- When names can't be read.
-use Rattle.pesp_check_run.specs.Devices.{Device, HasFailed}
+use Rattle.pesp_check.specs.Devices.{Device, HasFailed}
 use Rattle.pesp_runs.specs.declared.fault.Fault.{Fault}
 use Rattle.pesp_runs.specs.declared.fault.Fault.TheVariants.{Names, Memory, Read}
 

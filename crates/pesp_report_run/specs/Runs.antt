@@ -6,7 +6,7 @@ use Rattle.pesp_search.specs.declared.refusal.SolveRefusal.TheVariants.{Memory a
 use Rattle.pesp_conflict.specs.Findings.{IsConflict, IsUndecided}
 use Rattle.pesp_conflict.specs.Refusals.{IsConflictRefusal}
 use Rattle.pesp_conflict.specs.Lists.{listed_lines, list_text}
-use Rattle.pesp_check_run.specs.Devices.{Device, HasFailed, GetsFront}
+use Rattle.pesp_check.specs.Devices.{Device, HasFailed, GetsFront}
 use Rattle.pesp_runs.specs.Reading.{ReadsInstance}
 use Rattle.pesp_runs.specs.Causes.{InstanceCause, OutCause}
 use Rattle.pesp_runs.specs.declared.fault.Fault.{Fault}

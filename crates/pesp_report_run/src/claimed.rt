@@ -3,15 +3,15 @@
 ghost use Rattle.std.specs.Prelude.{◌≢◌, ◌<◌, ◌^◌, OnOk, IfOk, IfErr};
 ghost use Rattle.pesp_stream.specs.Counts.{FewerThan, HasWorked};
 ghost use Rattle.pesp_problem.specs.Timetables.{AreTimes};
-ghost use Rattle.pesp_check_run.specs.Devices.{over};
+ghost use Rattle.pesp_check.specs.Devices.{over};
 ghost use Rattle.pesp_runs.specs.Reading.{ReadsTimes};
 ghost use Rattle.pesp_runs.specs.Causes.{TimesCause};
 
-use pesp_page::{Claim, claim_in};
 use pesp_problem::Instance;
 use pesp_report::read_times;
 use pesp_runs::{Fault, MOST_TEXT};
 use pesp_stream::{Source, read_all};
+use pesp_timetable::{Claim, claim_in};
 use std::alloc::Global;
 
 /// One time for each event, and what the text that tells them claims.

@@ -3,18 +3,20 @@
 ghost use Rattle.std.specs.Prelude.{◌≡◌, ◌≢◌, ◌<◌, ◌≤◌, ◌^◌, OnOk, IfOk, IfErr};
 ghost use Rattle.std.specs.Io.KnownBytes.{Appends};
 ghost use Rattle.pesp_stream.specs.Counts.{FewerThan, HasWorked};
-ghost use Rattle.pesp_timetable.specs.Fixing.{IsText};
-ghost use Rattle.pesp_check_run.specs.Devices.{over, HasFailed, GetsFront};
+ghost use Rattle.pesp_report_run.specs.Fixed.{IsText};
+ghost use Rattle.pesp_check.specs.Devices.{over, HasFailed, GetsFront};
 ghost use Rattle.pesp_runs.specs.Causes.{OutCause};
 ghost use Rattle.pesp_report_run.specs.Reporting.{WritesSheet};
 ghost use Rattle.pesp_report_run.specs.Violating.{ReadsForEvents};
 ghost use Rattle.pesp_report_run.specs.Fixing.{FixCause, WritesFixed};
 
+use crate::fix_refusal::FixRefusal;
+use crate::fixed::fixed_text;
+use crate::fixed_events::Wanted;
 use pesp_problem::Instance;
 use pesp_report::Names;
 use pesp_runs::{Fault, read_whole_instance, read_whole_times};
 use pesp_stream::{Bytes, Sink, Source, print_to};
-use pesp_timetable::{FixRefusal, Wanted, fixed_text};
 use std::alloc::Global;
 
 /// Writes an instance with what is wanted in front, or tells why it can't be had, and writes nothing.

@@ -1,11 +1,20 @@
 //! The runs that tell of times, over any readers and writers: a report, with names of events or without, the timetable as records,
 //! a picture, diagrams or a page of it, what times violate, and an instance in which events are fixed.
 //!
+//! Events that are fixed: an instance with activities in front that hold them at times of a clock, judged by reading it back.
+//!
 //! The run that looks for a conflict, over any reader and writer.
 #![tactic(auto)]
 
 mod claimed;
+mod clock;
+mod fix_refusal;
+mod fixed;
+mod fixed_events;
+mod fixed_lines;
 mod fixing;
+mod instance_text;
+mod judge;
 mod names;
 mod run;
 mod sheet;
@@ -13,6 +22,9 @@ mod sheets;
 mod told;
 mod violated;
 
+pub use fix_refusal::FixRefusal;
+pub use fixed::fixed_text;
+pub use fixed_events::Wanted;
 pub use fixing::run_fix;
 pub use names::read_whole_names;
 pub use run::run_conflict;

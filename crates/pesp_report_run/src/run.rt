@@ -5,7 +5,7 @@ ghost use Rattle.std.specs.Io.KnownBytes.{Appends};
 ghost use Rattle.pesp_problem.specs.declared.limits.TheConstants.{MOST_ROWS, MOST_STEPS};
 ghost use Rattle.pesp_stream.specs.Counts.{FewerThan, HasWorked};
 ghost use Rattle.pesp_conflict.specs.Findings.{IsConflict};
-ghost use Rattle.pesp_check_run.specs.Devices.{over, HasFailed, GetsFront};
+ghost use Rattle.pesp_check.specs.Devices.{over, HasFailed, GetsFront};
 ghost use Rattle.pesp_report.specs.Naming.{naming_of};
 ghost use Rattle.pesp_runs.specs.Causes.{OutCause};
 ghost use Rattle.pesp_report_run.specs.Runs.{ConflictCause, TellsConflict, WritesList};

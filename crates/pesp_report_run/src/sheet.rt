@@ -9,11 +9,10 @@ ghost use Rattle.pesp_report.specs.Reporting.{IfBlamed, Refuses, UnlessBlamed};
 
 use pesp_diagram::diagram;
 use pesp_draw::{ActivityFilter, draw};
-use pesp_page::{Claim, page};
 use pesp_problem::Instance;
 use pesp_report::{Names, ReportRefusal, report, report_named};
 use pesp_stream::Sink;
-use pesp_timetable::timetable;
+use pesp_timetable::{Claim, page, timetable};
 use std::alloc::Global;
 
 /// What is written of a timetable: a report, its records, a picture or a page.

@@ -2,7 +2,7 @@
 use Rattle.std.specs.Prelude.{ℕ, ◌≤◌}
 use Rattle.std.specs.List.Sorted.{IsStrictlyIncreasing}
 use Rattle.pesp_problem.specs.declared.limits.TheConstants.{MOST_PERIOD, MOST_STEPS}
-use Rattle.pesp_numbers.specs.declared.seconds.TheConstants.{MOST_SECONDS}
+use Rattle.pesp_runs.specs.declared.seconds.TheConstants.{MOST_SECONDS}
 use Rattle.pesp_request.specs.declared.request.OfInstance.{OfInstance}
 use Rattle.pesp_request.specs.declared.request.OfInstance.TheVariants.{Solve, SolveSharp, Plan, Conflict}
 use Rattle.pesp_request.specs.declared.request.OfCertificate.{OfCertificate}

@@ -16,9 +16,8 @@ use crate::request::{
 };
 use clap::error::ErrorKind;
 use clap::{ArgMatches, Command, Error};
-use pesp_numbers::{jobs_of, period_within, rows_within, seconds_within, share_of, steps_within};
-use pesp_problem::{MOST_PERIOD, MOST_STEPS};
-use pesp_sharpener::Share;
+use pesp_problem::{MOST_PERIOD, MOST_STEPS, Share};
+use pesp_runs::{jobs_of, period_within, rows_within, seconds_within, share_of, steps_within};
 use std::alloc::{AllocError, Global};
 
 /// The program's version, and the versions of certificates that it writes and reads.

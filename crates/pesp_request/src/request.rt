@@ -1,6 +1,6 @@
 //! What a command line asks for.
 
-use pesp_sharpener::Share;
+use pesp_problem::Share;
 
 /// What the words of a command line ask for. The period is in the unit of the instance's durations.
 #[derive(Drop)]

@@ -11,10 +11,10 @@ use Rattle.pesp_search.specs.declared.refusal.SolveRefusal.TheVariants.{Memory a
 use Rattle.pesp_report.specs.TimesText.{times_from_text}
 use Rattle.pesp_report.specs.declared.refusal.TimesRefusal.{TimesRefusal}
 use Rattle.pesp_report.specs.declared.refusal.TimesRefusal.TheVariants.{BadLine, WrongCount, Memory as TimesMemory}
-use Rattle.pesp_check_run.specs.declared.fault.VerdictFault.{VerdictFault}
-use Rattle.pesp_check_run.specs.declared.fault.VerdictFault.TheVariants.{Instance, Certificate, Memory, Read, Write, NoFile}
-use Rattle.pesp_check_run.specs.Devices.{Device, over}
-use Rattle.pesp_check_run.specs.Checking as checking
+use Rattle.pesp_check.specs.declared.fault.VerdictFault.{VerdictFault}
+use Rattle.pesp_check.specs.declared.fault.VerdictFault.TheVariants.{Instance, Certificate, Memory, Read, Write, NoFile}
+use Rattle.pesp_check.specs.Devices.{Device, over}
+use Rattle.pesp_check.specs.Checking as checking
 use Rattle.pesp_runs.specs.FaultLines.{verdict_fault, search_fault, times_fault}
 use Rattle.pesp_runs.specs.Causes.{InstanceCause, TimesCause, SearchCause, LimitCause}
 

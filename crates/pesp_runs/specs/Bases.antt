@@ -7,7 +7,7 @@ use Rattle.pesp_cert.specs.Fronted.{Fronted, IsFrontedText}
 use Rattle.pesp_cert.specs.Refusals.{items_of_text}
 use Rattle.pesp_judges.specs.Faults.{IsVerdict}
 use Rattle.pesp_truth.specs.Certificates.{IsValid}
-use Rattle.pesp_check_run.specs.Devices.{Device, HasFailed}
+use Rattle.pesp_check.specs.Devices.{Device, HasFailed}
 use Rattle.pesp_runs.specs.Reading.{ReadsNext}
 use Rattle.pesp_runs.specs.declared.fault.Fault.{Fault}
 use Rattle.pesp_runs.specs.declared.fault.Fault.TheVariants.{Certificate, Base, Memory, Read}

@@ -12,7 +12,7 @@ use Rattle.pesp_search.specs.Solving.{IsSearchRefusal}
 use Rattle.pesp_search.specs.declared.refusal.SolveRefusal.TheVariants.{Memory as SearchMemory}
 use Rattle.pesp_report.specs.TimesText.{times_from_text}
 use Rattle.pesp_report.specs.declared.refusal.ReportRefusal.TheVariants.{Violates}
-use Rattle.pesp_check_run.specs.Devices.{Device, HasFailed}
+use Rattle.pesp_check.specs.Devices.{Device, HasFailed}
 use Rattle.pesp_runs.specs.Reading.{ReadsNext, ReadsTimes, ReadsCertificate, RefusesInstance}
 use Rattle.pesp_runs.specs.declared.fault.Fault.{Fault}
 use Rattle.pesp_runs.specs.declared.fault.Fault.TheVariants.{Instance, Certificate, Times, Search, Report, Base, Memory, Read, Write}
@@ -23,6 +23,12 @@ InstanceCause (Instance refusal) reader period = RefusesInstance reader.old read
 InstanceCause Memory reader period = Unit {0}
 InstanceCause Read reader period = HasFailed reader
 InstanceCause fault reader period = ⊥
+
+-- why a text isn't read to its end: the reader's device
+abbrev pub TextCause : Fault → Device → Type 0
+TextCause Memory reader = Unit {0}
+TextCause Read reader = HasFailed reader
+TextCause fault reader = ⊥
 
 -- why there are no times: their text, or the reader's device
 abbrev pub TimesCause : Fault → Device → Pesp → Type 0

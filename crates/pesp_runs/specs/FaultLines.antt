@@ -12,13 +12,13 @@ use Rattle.pesp_report.specs.declared.refusal.TimesRefusal.{TimesRefusal}
 use Rattle.pesp_report.specs.declared.refusal.TimesRefusal.TheVariants.{Memory as TimesMemory}
 use Rattle.pesp_report.specs.declared.refusal.ReportRefusal.{ReportRefusal}
 use Rattle.pesp_report.specs.declared.refusal.ReportRefusal.TheVariants.{NotTimes, Memory as ReportMemory, Write as ReportWrite}
-use Rattle.pesp_check_run.specs.Verdicts.{refusal_text}
+use Rattle.pesp_check.specs.Verdicts.{refusal_text}
 use Rattle.pesp_instance.specs.RefusalLines.{instance_line}
 use Rattle.pesp_cert.specs.RefusalLines.{certificate_line}
 use Rattle.pesp_report.specs.NamesRefusalLines.{names_line}
 use Rattle.pesp_report.specs.RefusalLines.{times_line, report_line}
-use Rattle.pesp_check_run.specs.declared.fault.VerdictFault.{VerdictFault}
-use Rattle.pesp_check_run.specs.declared.fault.VerdictFault.TheVariants.{Instance as OfInstance, Certificate as OfCertificate, Memory as OfMemory, Read as OfRead, Write as OfWrite, NoFile as OfNoFile}
+use Rattle.pesp_check.specs.declared.fault.VerdictFault.{VerdictFault}
+use Rattle.pesp_check.specs.declared.fault.VerdictFault.TheVariants.{Instance as OfInstance, Certificate as OfCertificate, Memory as OfMemory, Read as OfRead, Write as OfWrite, NoFile as OfNoFile}
 use Rattle.pesp_report.specs.declared.refusal.ViolationsRefusal.{ViolationsRefusal}
 use Rattle.pesp_report.specs.declared.refusal.ViolationsRefusal.TheVariants.{NotTimes as NoTimes, Memory as ViolationsMemory, Write as ViolationsWrite}
 use Rattle.pesp_runs.specs.declared.fault.Fault.{Fault}

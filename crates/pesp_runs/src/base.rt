@@ -3,19 +3,19 @@
 ghost use Rattle.std.specs.Prelude.{◌≢◌, ◌<◌, ◌^◌, ℕ, List, Option, OnOk, IfOk, IfErr};
 ghost use Rattle.pesp_stream.specs.Counts.{FewerThan, HasWorked};
 ghost use Rattle.pesp_problem.specs.Timetables.{Pesp};
-ghost use Rattle.pesp_check_run.specs.Devices.{Device, over};
+ghost use Rattle.pesp_check.specs.Devices.{Device, over};
 ghost use Rattle.pesp_runs.specs.declared.fault.Fault.{Fault as AnyFault};
 
 use crate::{Fault, MOST_TEXT, read_base};
 use pesp_cert::{Certificate, Fronted, parse_fronted};
-use pesp_check::check_sharp;
 use pesp_judges::Verdict;
 use pesp_problem::Instance;
 use pesp_stream::{Source, read_all};
+use pesp_whole_check::check_sharp;
 use std::alloc::Global;
 
 /// A certificate that is read to begin with, and is valid for its instance: one without a front, or one that may have it.
-pub trait Base {
+pub trait Base: Drop {
     // It is valid for the instance.
     ghost valid: { Pesp → Self → Type 0 };
 

@@ -4,13 +4,13 @@ ghost use Rattle.std.specs.Prelude.{◌≡◌};
 ghost use Rattle.pesp_runs.specs.FaultLines.{exit_status};
 
 use pesp_cert::CertRefusal;
-use pesp_check::Refusal;
-use pesp_check_run::{RefusalText, VerdictFault};
+use pesp_check::{RefusalText, VerdictFault};
 use pesp_instance::ReadRefusal;
 use pesp_problem::Memory as NoMemory;
 use pesp_report::{NamesRefusal, ReportRefusal, TimesRefusal, ViolationsRefusal};
 use pesp_search::SolveRefusal;
 use pesp_stream::{ReadFault, WriteFault};
+use pesp_whole_check::Refusal;
 use std::alloc::AllocError;
 use std::fmt;
 

@@ -4,7 +4,7 @@ ghost use Rattle.std.specs.Prelude.{◌≡◌, ◌≢◌, ◌<◌, ◌^◌, ℕ,
 ghost use Rattle.std.specs.Io.KnownBytes.{Appends};
 ghost use Rattle.pesp_stream.specs.Counts.{FewerThan, HasWorked};
 ghost use Rattle.pesp_problem.specs.Timetables.{Pesp};
-ghost use Rattle.pesp_check_run.specs.Devices.{over, HasFailed, GetsFront};
+ghost use Rattle.pesp_check.specs.Devices.{over, HasFailed, GetsFront};
 ghost use Rattle.pesp_runs.specs.declared.fault.Fault.{Fault as AnyFault};
 ghost use Rattle.pesp_runs.specs.Runs.{OverBase, OverBaseCause};
 

@@ -4,12 +4,12 @@ ghost use Rattle.std.specs.Prelude.{◌≡◌, ◌≢◌, ◌<◌, ◌^◌, ℕ,
 ghost use Rattle.std.specs.Io.KnownBytes.{Appends};
 ghost use Rattle.pesp_stream.specs.Counts.{FewerThan, HasWorked};
 ghost use Rattle.pesp_problem.specs.Timetables.{Pesp};
-ghost use Rattle.pesp_check_run.specs.Devices.{over, HasFailed, GetsFront};
+ghost use Rattle.pesp_check.specs.Devices.{over, HasFailed, GetsFront};
 ghost use Rattle.pesp_runs.specs.declared.fault.Fault.{Fault as AnyFault};
-ghost use Rattle.pesp_runs.specs.Reading.{ReadsTimetable};
-ghost use Rattle.pesp_runs.specs.Runs.{Alone, AloneCause, FromTimesCause};
+ghost use Rattle.pesp_runs.specs.Runs.{Alone, AloneCause, OverBase, OverBaseCause};
 
-use crate::{Fault, read_timetable, read_whole_instance};
+use crate::start::Start;
+use crate::{Fault, read_whole_instance};
 use pesp_problem::Instance;
 use pesp_stream::{Sink, Source};
 use std::alloc::Global;
@@ -76,12 +76,12 @@ pub fn run_alone<S: Search, R: Source, W: Sink>(
     search.write(alloc, &instance, &[], writer)
 }
 
-/// Runs as `run_alone` does, from the times that the second reader gives, which have to be a timetable. The instance is judged
-/// before the times are read. `Times` where their text is refused, and `Report` with the first row that they violate; nothing is
-/// written then.
-pub fn run_from_times<S: Search, R: Source, T: Source, W: Sink>(
+/// Runs as `run_alone` does, from the times that the second reader gives. The instance is judged before the times are read, and
+/// nothing is written before all stands.
+pub fn run_from_times<S: Search, N: Start, R: Source, T: Source, W: Sink>(
     alloc: Global,
     search: &mut S,
+    start: &mut N,
     instance_reader: &mut R,
     times_reader: &mut T,
     writer: &mut W,
@@ -91,8 +91,8 @@ pub fn run_from_times<S: Search, R: Source, T: Source, W: Sink>(
     requires reads_fit { FewerThan (2 ^ 62) (R.calls instance_reader.old) }
     requires times_reads_fit { FewerThan (2 ^ 62) (T.calls times_reader.old) }
     requires writes_fit { FewerThan (2 ^ 62) (W.calls writer.old) }
-    ensures ok { OnOk result
-        (ReadsTimetable (R.remaining instance_reader.old) (R.remaining instance_reader.new)
+    ensures ok { OnOk result (OverBase N.reads
+        (R.remaining instance_reader.old) (R.remaining instance_reader.new)
         (T.remaining times_reader.old) (T.remaining times_reader.new) period
         (λ p times. S.writes search.old search.new p times
         (Appends (W.contents writer.old) (W.contents writer.new)))) }
@@ -103,18 +103,18 @@ pub fn run_from_times<S: Search, R: Source, T: Source, W: Sink>(
         (HasWorked (T.calls times_reader.old) (T.calls times_reader.new)) }
     ensures times_reads_else { IfErr result (λ fault. fault ≢ Fault.Read → HasWorked (T.calls times_reader.old) (T.calls times_reader.new)) }
     ensures writes { OnOk result (HasWorked (W.calls writer.old) (W.calls writer.new)) }
-    ensures cause { IfErr result
-        (λ fault. FromTimesCause (S.stops search.old) (S.writes search.old search.new) fault
+    ensures cause { IfErr result (λ fault. OverBaseCause N.reads N.refused fault
         (over (R.remaining instance_reader.old) (R.remaining instance_reader.new)
         (R.calls instance_reader.old) (R.calls instance_reader.new))
         (over (T.remaining times_reader.old) (T.remaining times_reader.new)
         (T.calls times_reader.old) (T.calls times_reader.new))
         (over (W.contents writer.old) (W.contents writer.new)
         (W.calls writer.old) (W.calls writer.new))
-        period (times_reader.new ≡ times_reader.old)) }
+        period (times_reader.new ≡ times_reader.old)
+        (S.stops search.old) (S.writes search.old search.new)) }
     ensures silent { IfErr result (λ fault. fault ≢ Fault.Write → writer.new ≡ writer.old) }
 {
     let instance = read_whole_instance(alloc, instance_reader, period)?;
-    let times = read_timetable(alloc, &instance, times_reader)?;
+    let times = start.read(alloc, &instance, times_reader)?;
     search.write(alloc, &instance, &times, writer)
 }

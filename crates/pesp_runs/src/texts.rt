@@ -2,17 +2,17 @@
 
 ghost use Rattle.std.specs.Prelude.{◌≢◌, ◌<◌, ◌^◌, OnOk, IfOk, IfErr};
 ghost use Rattle.pesp_stream.specs.Counts.{FewerThan, HasWorked};
-ghost use Rattle.pesp_problem.specs.Timetables.{AreTimes, IsTimetable};
-ghost use Rattle.pesp_check_run.specs.Devices.{over};
+ghost use Rattle.pesp_problem.specs.Timetables.{AreTimes};
+ghost use Rattle.pesp_check.specs.Devices.{over};
 ghost use Rattle.pesp_runs.specs.Reading.{ReadsInstance, ReadsTimes, ReadsBase};
-ghost use Rattle.pesp_runs.specs.Causes.{InstanceCause, TimesCause, RowCause, TimetableCause, BaseCause};
+ghost use Rattle.pesp_runs.specs.Causes.{InstanceCause, TimesCause, BaseCause};
 
 use crate::fault::Fault;
 use pesp_cert::{Certificate, parse};
-use pesp_check::{Verdict, check};
-use pesp_problem::{Instance, Score, score};
-use pesp_report::{ReportRefusal, read_times};
+use pesp_problem::Instance;
+use pesp_report::read_times;
 use pesp_stream::{Source, read_all};
+use pesp_whole_check::{Verdict, check};
 use std::alloc::Global;
 
 /// How many bytes of a text behind the instance are read and judged.
@@ -35,7 +35,7 @@ pub fn read_whole_instance<R: Source>(
         (over (R.remaining reader.old) (R.remaining reader.new)
         (R.calls reader.old) (R.calls reader.new)) period) }
 {
-    let instance = pesp_check_run::read_whole_instance(alloc, reader, period)?;
+    let instance = pesp_check::read_whole_instance(alloc, reader, period)?;
     Ok(instance)
 }
 
@@ -61,43 +61,6 @@ pub fn read_whole_times<R: Source>(
     let text = read_all(alloc, reader, MOST_TEXT)?;
     let times = read_times(alloc, instance, &text)?;
     Ok(times)
-}
-
-/// Reads times as `read_whole_times` does, which have to be a timetable: `Report` with the first row that they violate where
-/// they aren't.
-pub fn read_timetable<R: Source>(
-    alloc: Global,
-    instance: &Instance,
-    reader: &mut R,
-) -> Result<Vec<u32>, Fault>
-    requires fits { FewerThan (2 ^ 63) (R.calls reader.old) }
-    ensures ok { IfOk result
-        (λ times. ReadsTimes (R.remaining reader.old) (R.remaining reader.new) instance.now
-        times.items) }
-    ensures timetable { IfOk result (λ times. IsTimetable instance.now times.items) }
-    ensures counts { OnOk result (HasWorked (R.calls reader.old) (R.calls reader.new)) }
-    ensures counts_else { IfErr result (λ fault. fault ≢ Fault.Read → HasWorked (R.calls reader.old) (R.calls reader.new)) }
-    ensures cause { IfErr result
-        (λ fault. TimetableCause fault
-        (over (R.remaining reader.old) (R.remaining reader.new)
-        (R.calls reader.old) (R.calls reader.new)) instance.now) }
-{
-    let times = read_whole_times(alloc, instance, reader)?;
-    judge(instance, &times)?;
-    Ok(times)
-}
-
-/// Says that times are a timetable, or which row they violate first.
-fn judge(instance: &Instance, times: &[u32]) -> Result<(), Fault>
-    requires { AreTimes instance.now times.now }
-    ensures timetable { OnOk result (IsTimetable instance.now times.now) }
-    ensures cause { IfErr result (λ fault. RowCause fault instance.now times.now) }
-{
-    match score(instance, times) {
-        Score::Feasible { .. } => Ok(()),
-        Score::Violates { row, .. } => Err(Fault::Report(ReportRefusal::Violates { row })),
-        Score::NotTimes => unreachable!(),
-    }
 }
 
 /// Reads a certificate, which has to be valid for the instance: a base to work on. At most 1,073,741,824 bytes are read and

@@ -16,7 +16,7 @@ use Rattle.pesp_truth.specs.Shown.{lemmas_of}
 use Rattle.pesp_truth.proofs.Lines.{sound_as_tree, sound_as_lines}
 use Rattle.pesp_cert.specs.Limits.{is_cost, has_costs, ContentKeepsLimits}
 use Rattle.pesp_cert.specs.Fronted.{Fronted}
-use Rattle.pesp_check.specs.Costs.{told, shown_at, shown_in, shown_of}
+use Rattle.pesp_whole_check.specs.Costs.{told, shown_at, shown_in, shown_of}
 use Rattle.pesp_tree.specs.States.{IsAtMost}
 use Rattle.pesp_search.specs.Told.{least_shown, answer_of, IsRetold}
 use Rattle.pesp_search.proofs.Lesser.{IsReached, AreCosts, least_is_reached, least_within_cost, reached_by_least, least_cost}

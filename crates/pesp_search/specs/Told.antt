@@ -5,7 +5,7 @@ use Rattle.pesp_truth.specs.declared.answer.Answer.{Answer}
 use Rattle.pesp_truth.specs.declared.answer.Answer.TheVariants.{Optimal, Infeasible, Bounded}
 use Rattle.pesp_truth.specs.Certificates.{least_of, cost_of, IsValid}
 use Rattle.pesp_cert.specs.Fronted.{Fronted}
-use Rattle.pesp_check.specs.Costs.{shown_of}
+use Rattle.pesp_whole_check.specs.Costs.{shown_of}
 use Rattle.pesp_tree.specs.States.{IsAtMost}
 
 -- the lesser of two numbers; none stands above every number

@@ -1,7 +1,7 @@
 //! Why nothing is answered.
 
 use pesp_problem::Memory;
-use std::alloc::{AllocError, AllocFailed};
+use std::alloc::AllocError;
 use thiserror::Error;
 
 /// Why an instance isn't solved.
@@ -36,17 +36,6 @@ impl From<AllocError> for SolveRefusal {
     ghost from_gives = { λ _ e. e ≡ Memory };
 
     fn from(_refused: AllocError) -> SolveRefusal {
-        SolveRefusal::Memory
-    }
-}
-
-impl<T: Drop> From<AllocFailed<T>> for SolveRefusal {
-    ghost use Rattle.std.specs.Prelude.{◌≡◌};
-    ghost use Rattle.pesp_search.specs.declared.refusal.SolveRefusal.TheVariants.{Memory};
-
-    ghost from_gives = { λ _ e. e ≡ Memory };
-
-    fn from(_refused: AllocFailed<T>) -> SolveRefusal {
         SolveRefusal::Memory
     }
 }

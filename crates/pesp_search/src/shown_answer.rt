@@ -8,9 +8,9 @@ ghost use Rattle.pesp_search.specs.Told.{TellsLeast, IsRetold};
 use crate::copies::with_answer;
 use crate::least::{is_same, least_shown};
 use pesp_cert::{Certificate, Fronted};
-use pesp_check::costs_shown;
 use pesp_problem::{Instance, Memory};
 use pesp_truth::Answer;
+use pesp_whole_check::costs_shown;
 use std::alloc::Global;
 
 /// The answer of a tree that shows so much at least, beside times of a cost.

@@ -109,11 +109,12 @@ pub(crate) fn matched(
         matched: vec![in alloc; false; walks.len()]?,
     };
     let mut places = at_their_places(alloc, &mut ours, others)?;
-    for (slot, codes) in places.iter_mut().zip(others.iter()) {
+    for (place, slot) in places.iter_mut().enumerate() {
         if slot.is_none()
-            && let Some(place) = ours.find(codes)
+            && let Some(codes) = others.get(place)
+            && let Some(found) = ours.find(codes)
         {
-            *slot = ours.take(place, codes);
+            *slot = ours.take(found, codes);
         }
     }
     Ok(places)

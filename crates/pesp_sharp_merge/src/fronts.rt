@@ -1,5 +1,6 @@
 //! The cycles and the marked walks of the certificate that comes of two.
 
+use crate::lemmas::copied_cycles;
 use crate::names::Numbering;
 use pesp_cert::Front;
 use pesp_problem::{MarkedWalk, Memory, Walk};
@@ -35,10 +36,7 @@ pub(crate) fn joined_cycles(
     other: &[Walk],
     numbering: &Numbering,
 ) -> Result<Vec<Walk>, Memory> {
-    let mut cycles = Vec::with_capacity(alloc, own.len())?;
-    for walk in own {
-        cycles.push(Walk::new(Vec::from_slice(alloc, walk.rows())?))?;
-    }
+    let mut cycles = copied_cycles(alloc, own)?;
     for place in &numbering.new_cycles {
         if let Some(walk) = other.get(*place as usize) {
             cycles.push(Walk::new(Vec::from_slice(alloc, walk.rows())?))?;

@@ -111,22 +111,22 @@ impl<'a> LemmaLeaf<'a> {
         Ok(())
     }
 
-    /// Which of its cycles, marked walks and lemmas a line names.
-    fn named(&self, alloc: Global, line: &TreeLine) -> Result<Named, Memory> {
+    /// Which of its cycles, marked walks and lemmas pairs name.
+    fn named(&self, alloc: Global, pairs: &[Pair]) -> Result<Named, Memory> {
         let walks = walks_of(self.front()).len();
         let lemmas = lemmas_of(self.front()).len();
         let mut named = Named::none(alloc, self.cycles(), walks, lemmas)?;
-        named.mark_line(line);
+        named.mark_pairs(pairs);
         Ok(named)
     }
 
-    /// A line by new numbers; None where it can't be told.
+    /// Pairs by new numbers; None where they can't be told.
     fn retold(
         &self,
         alloc: Global,
-        line: &TreeLine,
+        pairs: &[Pair],
         numbers: &[u32],
-    ) -> Result<Option<TreeLine>, Memory> {
+    ) -> Result<Option<Pairs>, Memory> {
         let retelling = Retelling {
             cycles: self.cycles(),
             first: 0,
@@ -134,7 +134,7 @@ impl<'a> LemmaLeaf<'a> {
             numbers,
             factor: 1,
         };
-        retelling.line(alloc, line)
+        retelling.pairs(alloc, pairs)
     }
 }
 
@@ -164,7 +164,7 @@ impl LeafPair<'_> {
     }
 
     /// What both leaves name of our cycles and marked walks, each with the lesser multiplier, and our lemmas.
-    fn own_line(&self, alloc: Global) -> Result<TreeLine, Memory> {
+    fn own_pairs(&self, alloc: Global) -> Result<Vec<Pair>, Memory> {
         let others = self.others(alloc)?;
         let mut pairs = Vec::new(alloc);
         for pair in self.own.pairs {
@@ -178,25 +178,25 @@ impl LeafPair<'_> {
             }
         }
         self.own.add_lemmas(&mut pairs)?;
-        Ok(TreeLine::Bound(Pairs::new(pairs)))
+        Ok(pairs)
     }
 
     /// The other leaf's lemmas.
-    fn other_line(&self, alloc: Global) -> Result<TreeLine, Memory> {
+    fn other_pairs(&self, alloc: Global) -> Result<Vec<Pair>, Memory> {
         let mut pairs = Vec::new(alloc);
         self.other.add_lemmas(&mut pairs)?;
-        Ok(TreeLine::Bound(Pairs::new(pairs)))
+        Ok(pairs)
     }
 
-    /// The numbers of what these lines name.
+    /// The numbers of what these pairs name.
     fn numbering(
         &self,
         alloc: Global,
-        own_line: &TreeLine,
-        other_line: &TreeLine,
+        own_pairs: &[Pair],
+        other_pairs: &[Pair],
     ) -> Result<Numbering, Memory> {
-        let mut own = self.own.named(alloc, own_line)?;
-        match self.other.named(alloc, other_line) {
+        let mut own = self.own.named(alloc, own_pairs)?;
+        match self.other.named(alloc, other_pairs) {
             Ok(other) => {
                 let numbering = Numbering::of(alloc, &mut own, &other, self.common);
                 drop(own);
@@ -305,33 +305,32 @@ impl LeafPair<'_> {
         }
     }
 
-    /// The leaf of both lines by these numbers; None where it can't be told.
+    /// The leaf of these pairs by these numbers; None where it can't be told.
     fn leaf(
         &self,
         alloc: Global,
-        own_line: &TreeLine,
-        other_line: &TreeLine,
+        own_pairs: &[Pair],
+        other_pairs: &[Pair],
         numbering: &Numbering,
     ) -> Result<Option<TreeLine>, Memory> {
-        let own = self.own.retold(alloc, own_line, &numbering.own)?;
-        let other = self.other.retold(alloc, other_line, &numbering.other)?;
-        match (own, other) {
-            (Some(TreeLine::Bound(own)), Some(TreeLine::Bound(other))) => {
-                Ok(Some(joined_leaf(alloc, &own, &other)?))
-            }
-            _ => Ok(None),
-        }
+        let Some(own) = self.own.retold(alloc, own_pairs, &numbering.own)? else {
+            return Ok(None);
+        };
+        let Some(other) = self.other.retold(alloc, other_pairs, &numbering.other)? else {
+            return Ok(None);
+        };
+        Ok(Some(joined_leaf(alloc, &own, &other)?))
     }
 
-    /// What comes of both by these lines; None where a part would pass a limit.
+    /// What comes of both by these pairs; None where a part would pass a limit.
     fn joined(
         &self,
         alloc: Global,
-        own_line: &TreeLine,
-        other_line: &TreeLine,
+        own_pairs: &[Pair],
+        other_pairs: &[Pair],
     ) -> Result<Option<Fronted>, Memory> {
-        let numbering = self.numbering(alloc, own_line, other_line)?;
-        let fronted = match self.leaf(alloc, own_line, other_line, &numbering) {
+        let numbering = self.numbering(alloc, own_pairs, other_pairs)?;
+        let fronted = match self.leaf(alloc, own_pairs, other_pairs, &numbering) {
             Ok(Some(leaf)) => self.fronted(alloc, &numbering, leaf),
             Ok(None) => Ok(None),
             Err(refused) => Err(refused),
@@ -367,9 +366,9 @@ fn with_common(
         common,
         scale,
     };
-    let own_line = leaves.own_line(alloc)?;
-    let other_line = leaves.other_line(alloc)?;
-    leaves.joined(alloc, &own_line, &other_line)
+    let own_pairs = leaves.own_pairs(alloc)?;
+    let other_pairs = leaves.other_pairs(alloc)?;
+    leaves.joined(alloc, &own_pairs, &other_pairs)
 }
 
 /// What comes of two such leaves.

@@ -45,7 +45,7 @@ fn copied_marks(alloc: Global, walks: &[MarkedWalk]) -> Result<Vec<MarkedWalk>, 
 }
 
 /// A copy of cycles.
-fn copied_cycles(alloc: Global, cycles: &[Walk]) -> Result<Vec<Walk>, Memory> {
+pub(crate) fn copied_cycles(alloc: Global, cycles: &[Walk]) -> Result<Vec<Walk>, Memory> {
     let mut copies = Vec::with_capacity(alloc, cycles.len())?;
     for walk in cycles {
         copies.push(Walk::new(Vec::from_slice(alloc, walk.rows())?))?;

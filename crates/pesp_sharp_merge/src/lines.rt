@@ -35,7 +35,7 @@ impl Retelling<'_> {
     }
 
     /// The pairs in the order of their new numbers; None where one has no number or too great a multiplier.
-    fn pairs(&self, alloc: Global, pairs: &[Pair]) -> Result<Option<Pairs>, Memory> {
+    pub(crate) fn pairs(&self, alloc: Global, pairs: &[Pair]) -> Result<Option<Pairs>, Memory> {
         let has_scale = pairs.iter().any(|pair| pair.cycle as usize > self.cycles);
         let factor = if has_scale { self.factor } else { 1 };
         let mut told = Vec::with_capacity(alloc, pairs.len())?;

@@ -67,11 +67,16 @@ impl Named {
     }
 
     /// Marks what a line names.
-    pub(crate) fn mark_line(&mut self, line: &TreeLine) {
+    fn mark_line(&mut self, line: &TreeLine) {
         if let TreeLine::Offset { cycle, .. } | TreeLine::Gap(cycle) = line {
             self.mark(*cycle);
         }
-        for pair in pairs_of(line) {
+        self.mark_pairs(pairs_of(line));
+    }
+
+    /// Marks what pairs name.
+    pub(crate) fn mark_pairs(&mut self, pairs: &[Pair]) {
+        for pair in pairs {
             self.mark(pair.cycle);
         }
     }
@@ -85,9 +90,9 @@ impl Named {
 
     /// Marks our walks that are among the others' named ones.
     fn mark_matched(&mut self, others: &Named, matched: &[Option<u32>]) {
-        for (is_named, place) in others.walks.iter().zip(matched.iter()) {
+        for (walk, place) in matched.iter().enumerate() {
             if let Some(place) = place
-                && *is_named
+                && let Some(true) = others.walks.get(walk)
             {
                 mark_at(&mut self.walks, *place as usize);
             }
@@ -124,6 +129,40 @@ fn number_of(place: usize) -> u32 {
     u32::try_from(place).unwrap_or(u32::MAX)
 }
 
+/// The other certificate's cycles or walks: which are named, which of ours each is, the numbers of ours, and the first number of
+/// those that are new.
+#[derive(Clone, Copy)]
+struct Theirs<'a> {
+    named: &'a [bool],
+    matched: &'a [Option<u32>],
+    ours: &'a [u32],
+    first: u32,
+}
+
+impl Theirs<'_> {
+    /// Whether the one at a place is named.
+    fn is_named(&self, place: usize) -> bool {
+        self.named.get(place).copied().unwrap_or(false)
+    }
+
+    /// Puts their numbers into a list, and the places of those that are named and new into another.
+    fn number(&self, new: &mut Vec<u32>, numbers: &mut Vec<u32>) -> Result<(), Memory> {
+        for (place, ours) in self.matched.iter().enumerate() {
+            let number = match ours {
+                Some(ours) => self.ours.get(*ours as usize).copied().unwrap_or(u32::MAX),
+                None if self.is_named(place) => {
+                    let rank = number_of(new.len());
+                    new.push(number_of(place))?;
+                    self.first.saturating_add(rank)
+                }
+                None => u32::MAX,
+            };
+            numbers.push(number)?;
+        }
+        Ok(())
+    }
+}
+
 impl Numbering {
     /// Nothing is numbered yet.
     fn empty(alloc: Global) -> Numbering {
@@ -155,18 +194,13 @@ impl Numbering {
         matched: &[Option<u32>],
     ) -> Result<(), Memory> {
         let first = number_of(self.own.len()).saturating_add(1);
-        for (place, (is_named, ours)) in named.iter().zip(matched.iter()).enumerate() {
-            let number = match ours {
-                Some(ours) => ours.saturating_add(1),
-                None if *is_named => {
-                    self.new_cycles.push(number_of(place))?;
-                    first.saturating_add(number_of(self.new_cycles.len().wrapping_sub(1)))
-                }
-                None => u32::MAX,
-            };
-            self.other.push(number)?;
-        }
-        Ok(())
+        let theirs = Theirs {
+            named,
+            matched,
+            ours: &self.own,
+            first,
+        };
+        theirs.number(&mut self.new_cycles, &mut self.other)
     }
 
     /// Our walks that are named are numbered on from all cycles.
@@ -191,25 +225,13 @@ impl Numbering {
         named: &[bool],
         matched: &[Option<u32>],
     ) -> Result<(), Memory> {
-        for (place, (is_named, ours)) in named.iter().zip(matched.iter()).enumerate() {
-            let number = match ours {
-                Some(ours) => self.our_walk(cycles, *ours),
-                None if *is_named => {
-                    let rank = number_of(self.new_walks.len());
-                    self.new_walks.push(number_of(place))?;
-                    first.saturating_add(rank)
-                }
-                None => u32::MAX,
-            };
-            self.other.push(number)?;
-        }
-        Ok(())
-    }
-
-    /// The number of a walk of ours, where so many cycles are ours.
-    fn our_walk(&self, cycles: usize, place: u32) -> u32 {
-        let at = cycles.saturating_add(place as usize);
-        self.own.get(at).copied().unwrap_or(u32::MAX)
+        let theirs = Theirs {
+            named,
+            matched,
+            ours: self.own.get(cycles..).unwrap_or(&[]),
+            first,
+        };
+        theirs.number(&mut self.new_walks, &mut self.other)
     }
 
     /// Our lemmas keep their order.

@@ -1,9 +1,10 @@
 //! Regions beside the tree: what they show, and whose turn it is of both.
 
+use pesp_offset_tree::Sharpened;
 use pesp_problem::Memory;
 use pesp_regions::Regions;
 use pesp_sharp_trees::Left;
-use pesp_sharpening::{Sharpened, Sharpening, Step};
+use pesp_sharpening::{Sharpening, Step};
 
 /// From how many rows on regions are looked at.
 const LEAST_ROWS: usize = 1_200;
@@ -58,7 +59,10 @@ fn regions_of(
 
 impl Bounding {
     /// The regions of a network whose root was sharpened; None where rows are few, or there are no two regions.
-    pub(crate) fn of(left: Left<'_>, sharpening: &Sharpening) -> Result<Option<Bounding>, Memory> {
+    pub(crate) fn of(
+        left: Left<'_>,
+        sharpening: &Sharpening,
+    ) -> Result<Option<Box<Bounding>>, Memory> {
         if !may_have_regions(left) {
             return Ok(None);
         }
@@ -75,15 +79,18 @@ impl Bounding {
         slacks: &[i64],
         scale: u32,
         root_work: u64,
-    ) -> Result<Option<Bounding>, Memory> {
+    ) -> Result<Option<Box<Bounding>>, Memory> {
         match regions_of(left, &root, slacks, scale) {
-            Ok(Some(regions)) => Ok(Some(Bounding {
-                root,
-                regions,
-                bound: 0,
-                gained_at: 0,
-                root_work,
-            })),
+            Ok(Some(regions)) => {
+                let bounding = Bounding {
+                    root,
+                    regions,
+                    bound: 0,
+                    gained_at: 0,
+                    root_work,
+                };
+                Ok(Some(Box::new(left.alloc, bounding)?))
+            }
             Ok(None) => {
                 drop(root);
                 Ok(None)

@@ -8,6 +8,5 @@ mod proposal;
 mod proposing;
 mod search;
 mod tree_sharpener;
-mod turns;
 
 pub use tree_sharpener::TreeSharpener;

@@ -4,15 +4,15 @@ use crate::best::Best;
 use crate::bounding::Bounding;
 use crate::search::SharpSearch;
 use pesp_cert::{Certificate, Front, Fronted, Marks, ShownLemma};
+use pesp_offset_tree::{SharpLine, Sharpened};
+use pesp_partition::ToldRegions;
 use pesp_problem::{Instance, Memory, Walk};
-use pesp_regions::ToldRegions;
+use pesp_search::Proposals;
 use pesp_sharp_trees::{
     CertificateNumbers, KeptLines, Left, copied_lemmas, copied_lines, copied_marks, copied_walks,
     crossing_walks, lemmas_of_regions, lifted_of, lines_of, marked_of, offset_shifts, region_leaf,
     scale_walk, some_wants_scale,
 };
-use pesp_sharpener::Proposals;
-use pesp_sharpening::{SharpLine, Sharpened};
 use pesp_truth::{Answer, TreeLine};
 use std::alloc::Global;
 
@@ -69,8 +69,10 @@ fn labelled(
     let Some(best) = best else {
         return Ok(labelled);
     };
-    for (label, time) in instance.events().iter().zip(best.times.iter()) {
-        labelled.push((*label, *time))?;
+    for (place, label) in instance.events().iter().enumerate() {
+        if let Some(time) = best.times.get(place) {
+            labelled.push((*label, *time))?;
+        }
     }
     Ok(labelled)
 }

@@ -7,10 +7,10 @@ use crate::proposal::proposals_of;
 use crate::search::{Chosen, NextTask, SharpSearch};
 use pesp_cert::Fronted;
 use pesp_forest::TimesFinder;
-use pesp_problem::{Instance, Memory};
+use pesp_problem::{Instance, Memory, Share};
 use pesp_reduce::{Reduced, reduce};
+use pesp_search::{Leaves, Pace, Proposals, SharpWatcher};
 use pesp_sharp_trees::{Left, scale_for, scale_over};
-use pesp_sharpener::{Leaves, Pace, Proposals, Share, SharpWatcher};
 use pesp_truth::Answer;
 use std::alloc::Global;
 

@@ -4,13 +4,14 @@ ghost use Rattle.std.specs.Prelude.{◌≡◌};
 
 use crate::best::{Best, offer, shown_by};
 use crate::bounding::{Bounding, may_have_regions};
-use crate::turns::{NextTurn, Turns};
 use pesp_cert::{Certificate, Fronted};
 use pesp_forest::{Effort, TimesFinder};
-use pesp_problem::{Memory, Score, score};
+use pesp_offset_tree::{SharpLine, Sharpened};
+use pesp_problem::{Memory, Score, Share, score};
+use pesp_regions::{NextTurn, Turns};
+use pesp_search::{Pace, SharpWatcher, Standing};
 use pesp_sharp_trees::{Left, given_of};
-use pesp_sharpener::{Pace, Share, SharpWatcher, Standing};
-use pesp_sharpening::{SharpLine, Sharpened, Sharpening, Step};
+use pesp_sharpening::{Sharpening, Step};
 use pesp_simplex::{Improved, SimplexRefusal, improve};
 use pesp_truth::Answer;
 use std::mem::replace;
@@ -49,10 +50,10 @@ pub(crate) struct Chosen {
 /// split, and after how many times are to be looked for where that is due.
 #[derive(Drop)]
 pub(crate) struct SharpSearch {
-    pub(crate) sharpening: Sharpening,
+    pub(crate) sharpening: Box<Sharpening>,
     pub(crate) best: Option<Best>,
     /// Regions beside the tree, where there are some.
-    pub(crate) bounding: Option<Bounding>,
+    pub(crate) bounding: Option<Box<Bounding>>,
     pub(crate) has_taken_up: bool,
     pub(crate) next: NextTask,
     pub(crate) chosen: Option<Chosen>,
@@ -132,7 +133,7 @@ impl SharpSearch {
     ) -> Result<SharpSearch, Memory> {
         let sharpening = Sharpening::new(left.alloc, left.network, SEED, scale)?;
         Ok(SharpSearch {
-            sharpening,
+            sharpening: Box::new(left.alloc, sharpening)?,
             best: None,
             bounding: None,
             has_taken_up: false,
@@ -178,7 +179,7 @@ impl SharpSearch {
     }
 
     /// Parts what is left into regions by the root that a certificate tells, or by one that is sharpened.
-    fn part_by(&mut self, left: Left<'_>, base: &Fronted) -> Result<Option<Bounding>, Memory> {
+    fn part_by(&mut self, left: Left<'_>, base: &Fronted) -> Result<Option<Box<Bounding>>, Memory> {
         if !may_have_regions(left) {
             return Ok(None);
         }
@@ -381,11 +382,10 @@ impl SharpSearch {
         if self.is_shown() {
             return Ok(());
         }
-        let bounding = Bounding::of(left, &self.sharpening)?;
-        if bounding.is_none() {
+        let Some(bounding) = Bounding::of(left, &self.sharpening)? else {
             return Ok(());
-        }
-        drop(replace(&mut self.bounding, bounding));
+        };
+        drop(replace(&mut self.bounding, Some(bounding)));
         match finder.best()? {
             Some(times) => self.offer_regions(&times),
             None => Ok(()),

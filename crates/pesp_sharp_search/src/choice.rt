@@ -10,12 +10,11 @@ ghost use Rattle.pesp_sharp_search.specs.Solving.{IsPlainAnswer, MayStand, Stand
 use crate::branches::count_branches;
 use crate::ranks::is_no_worse;
 use pesp_cert::{Certificate, Fronted};
-use pesp_check::check_sharp;
 use pesp_judges::Verdict;
 use pesp_problem::{Instance, Memory};
-use pesp_search::{branches_leave_both, retold};
-use pesp_sharpener::Proposals;
+use pesp_search::{Proposals, branches_leave_both, retold};
 use pesp_truth::Answer;
+use pesp_whole_check::check_sharp;
 use std::alloc::Global;
 
 /// What is known of an instance, and how many branches the tree has that shows it.

@@ -10,8 +10,7 @@ ghost use Rattle.pesp_sharp_search.specs.Solving.{IsNoWorse, IsPlainAnswer, MayS
 use crate::choice::{first_standing, without_front};
 use pesp_cert::Fronted;
 use pesp_problem::{Instance, Memory};
-use pesp_search::{FirstLook, Observer, SolveRefusal, look_first};
-use pesp_sharpener::{Pace, SharpWatcher, Sharpener};
+use pesp_search::{FirstLook, Observer, Pace, SharpWatcher, Sharpener, SolveRefusal, look_first};
 use pesp_truth::Answer;
 use std::alloc::Global;
 use std::marker::Model;

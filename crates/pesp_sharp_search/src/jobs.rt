@@ -9,9 +9,9 @@ ghost use Rattle.pesp_sharp_search.specs.Jobs.{jobs_at_line, jobs_in, told_job, 
 use crate::paths::pass;
 use pesp_board::Job;
 use pesp_cert::Fronted;
-use pesp_check::costs_shown;
 use pesp_problem::{Cut, Instance, Memory, Side};
 use pesp_truth::TreeLine;
+use pesp_whole_check::costs_shown;
 use pesp_worker::OpenJob;
 use std::alloc::Global;
 

@@ -25,8 +25,10 @@ pub use going::Going;
 pub use jobs::sharp_jobs;
 pub use observer::SharpObserver;
 pub use open_work::work_sharp;
-pub use pesp_search::{Nobody, Observer, SearchPhase, SolveRefusal};
-pub use pesp_sharpener::{Leaves, SharpWatcher, Sharpener, Standing, Unwatched};
+pub use pesp_search::{
+    Leaves, Nobody, Observer, SearchPhase, SharpWatcher, Sharpener, SolveRefusal, Standing,
+    Unwatched,
+};
 pub use pesp_worker::{JobsText, OpenJob};
 pub use ranks::is_no_worse;
 pub use resumption::{resume_leaves, resume_sharp};

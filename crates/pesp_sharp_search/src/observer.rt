@@ -1,7 +1,6 @@
 //! Observers of a search that sharpens.
 
-use pesp_search::{Nobody, Observer};
-use pesp_sharpener::{SharpWatcher, Standing};
+use pesp_search::{Nobody, Observer, SharpWatcher, Standing};
 
 /// Somebody who looks on while a search goes on and sharpens. No promise of the search speaks of observers.
 pub trait SharpObserver: Observer {

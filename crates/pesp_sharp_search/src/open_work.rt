@@ -9,8 +9,8 @@ use crate::jobs::{is_open, open_count};
 use crate::kept_leaves::keeps_others;
 use crate::{Leaves, SharpWatcher, Sharpener, resume_leaves};
 use pesp_cert::Fronted;
-use pesp_check::costs_shown;
 use pesp_problem::{Instance, Memory};
+use pesp_whole_check::costs_shown;
 use std::alloc::Global;
 
 /// Whether there are jobs of all these numbers, where there are so many.

@@ -8,7 +8,7 @@ use crate::choice::{branches_of, first_standing};
 use crate::whole_search::proposed;
 use pesp_cert::Fronted;
 use pesp_problem::{Instance, Memory};
-use pesp_sharpener::{Leaves, Pace, Proposals, SharpWatcher, Sharpener};
+use pesp_search::{Leaves, Pace, Proposals, SharpWatcher, Sharpener};
 use std::alloc::Global;
 
 /// What is proposed in the place of a certificate whose tree has so many branches, by so many splits of its leaves, or of some of

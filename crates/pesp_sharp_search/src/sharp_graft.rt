@@ -11,10 +11,10 @@ use crate::choice::told_in_full;
 use crate::is_no_worse;
 use crate::joined_texts::cut_work;
 use pesp_cert::{CertRefusal, Fronted, parse_fronted};
-use pesp_check::{check_sharp, costs_shown};
 use pesp_judges::{Refusal, Verdict};
 use pesp_problem::{Instance, Memory};
 use pesp_sharp_merge::{Merged, ShownCertificate, merge, merge_leaves};
+use pesp_whole_check::{check_sharp, costs_shown};
 use std::alloc::Global;
 
 /// What became of a work.

@@ -12,8 +12,7 @@ use crate::whole_search::proposed;
 use pesp_cert::Fronted;
 use pesp_problem::{Instance, Memory};
 use pesp_reduce::Reduced;
-use pesp_search::{FirstLook, SolveRefusal, look_first};
-use pesp_sharpener::{Pace, Proposals, SharpWatcher, Sharpener};
+use pesp_search::{FirstLook, Pace, Proposals, SharpWatcher, Sharpener, SolveRefusal, look_first};
 use std::alloc::Global;
 
 /// What is proposed beside a plain answer by at most so many splits of a leaf, from the root on.

@@ -2,7 +2,7 @@
 
 use pesp_cert::Fronted;
 use pesp_problem::{Instance, Memory};
-use pesp_sharpener::{Proposals, SharpWatcher, Sharpener};
+use pesp_search::{Proposals, SharpWatcher, Sharpener};
 use std::alloc::Global;
 
 /// Goes on to the end, and tells what is proposed then.

@@ -7,8 +7,8 @@ use crate::lowered::Lowering;
 use crate::scales::{growth_of, scale_over};
 use pesp_cert::Fronted;
 use pesp_inequalities::Pass;
+use pesp_offset_tree::{LeafMultipliers, SharpLine, Sharpened};
 use pesp_problem::{Memory, Pair};
-use pesp_sharpening::{LeafMultipliers, SharpLine, Sharpened};
 use pesp_truth::TreeLine;
 use std::alloc::Global;
 

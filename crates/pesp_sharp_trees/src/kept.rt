@@ -4,8 +4,8 @@ use crate::copies::{copied_lemmas, copied_marked};
 use crate::scales::growth_of;
 use pesp_cert::{Fronted, ShownLemma};
 use pesp_network::Network;
+use pesp_offset_tree::SharpLine;
 use pesp_problem::{MarkedWalk, Memory, Pair, Pairs};
-use pesp_sharpening::SharpLine;
 use pesp_truth::TreeLine;
 use std::alloc::Global;
 
@@ -160,8 +160,8 @@ impl<'a> KeptLines<'a> {
 
     /// The marked walks that kept lines name, behind these.
     pub fn add_walks(&self, alloc: Global, walks: &mut Vec<MarkedWalk>) -> Result<(), Memory> {
-        for (walk, rank) in self.marked.iter().zip(self.ranks.iter()) {
-            if rank.is_some() {
+        for (place, walk) in self.marked.iter().enumerate() {
+            if let Some(Some(_)) = self.ranks.get(place) {
                 walks.push(copied_marked(alloc, walk)?)?;
             }
         }

@@ -107,10 +107,12 @@ pub fn offset_shifts(
     let arcs = left.instance.arcs(left.alloc)?;
     let period = i64::from(left.instance.period());
     let mut shifts = Vec::new(left.alloc);
-    for (passes, walk) in lists.iter().zip(lifted.iter()) {
-        let own = sum_of_passes(left.network.arcs(), passes);
-        let more = sum_of_rows(&arcs, walk.rows()).wrapping_sub(own);
-        shifts.push(more.checked_div_euclid(period).unwrap_or(0))?;
+    for (place, passes) in lists.iter().enumerate() {
+        if let Some(walk) = lifted.get(place) {
+            let own = sum_of_passes(left.network.arcs(), passes);
+            let more = sum_of_rows(&arcs, walk.rows()).wrapping_sub(own);
+            shifts.push(more.checked_div_euclid(period).unwrap_or(0))?;
+        }
     }
     Ok(shifts)
 }

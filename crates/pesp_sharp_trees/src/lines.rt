@@ -1,8 +1,8 @@
 //! The lines of a tree with a certificate's numbers: cycles from 1, and marked walks on from them.
 
 use crate::kept::KeptLines;
+use pesp_offset_tree::{LeafMultipliers, SharpLine};
 use pesp_problem::{Memory, Pair, Pairs};
-use pesp_sharpening::{LeafMultipliers, SharpLine};
 use pesp_truth::TreeLine;
 use std::alloc::Global;
 

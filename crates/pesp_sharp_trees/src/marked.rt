@@ -48,8 +48,10 @@ fn marked_walks(
     lifted: &[Walk],
 ) -> Result<Vec<MarkedWalk>, Memory> {
     let mut marked = Vec::new(alloc);
-    for (passes, walk) in lists.iter().zip(lifted.iter()) {
-        marked.push(marked_walk(alloc, rows, passes, walk.rows())?)?;
+    for (place, passes) in lists.iter().enumerate() {
+        if let Some(walk) = lifted.get(place) {
+            marked.push(marked_walk(alloc, rows, passes, walk.rows())?)?;
+        }
     }
     Ok(marked)
 }

@@ -7,8 +7,8 @@ use crate::marked::{marked_of, scale_walk};
 use pesp_cert::ShownLemma;
 use pesp_inequalities::Pass;
 use pesp_network::NetRow;
+use pesp_partition::{ToldRegion, ToldRegions};
 use pesp_problem::{MarkedWalk, Memory, Pair, Pairs, Walk};
-use pesp_regions::{ToldRegion, ToldRegions};
 use pesp_truth::TreeLine;
 use std::alloc::{AllocError, Global};
 

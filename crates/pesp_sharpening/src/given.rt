@@ -1,19 +1,16 @@
 //! Trees that are given, and taken up.
 
 use crate::opens::{LeafStart, Open};
-use crate::shape::Shape;
-use crate::sharpened::{LeafMultipliers, SharpLine, Sharpened};
 use crate::sharpening::Sharpening;
-use crate::tree::Knot;
 use pesp_inequalities::Pass;
-use pesp_offset_cuts::PseudoCosts;
+use pesp_offset_tree::{Knot, LeafMultipliers, PseudoCosts, Shape, SharpLine, Sharpened};
 use pesp_problem::Memory;
 use pesp_sharp_nodes::{
     BoundSense, Limit, NodeProgram, OffsetBound, OffsetCut, ProgramNode, Range,
 };
 use pesp_warm_nodes::NodeBasis;
 use std::alloc::{AllocError, Global};
-use std::mem::swap;
+use std::mem::replace;
 
 /// What the lines of a given tree share: the lines with their shape, the number in the pool of each walk, none where it says
 /// nothing, the inequalities that leaves without any get, and what closes leaves.
@@ -130,26 +127,44 @@ impl Sharpening {
         place: u32,
         leaf: &LeafMultipliers,
     ) -> Result<Knot, AllocError> {
+        let walks = walks_of(self.alloc, given.walks, &leaf.walks)?;
+        let bound = self.open_given(given, place, &leaf.pairs, &walks)?;
+        let pairs = Vec::from_slice(self.alloc, &leaf.pairs)?;
+        Ok(Knot::Leaf {
+            leaf: LeafMultipliers { pairs, walks },
+            bound,
+        })
+    }
+
+    /// What these multipliers show at a leaf, which is open where that doesn't reach the limit.
+    fn open_given(
+        &mut self,
+        given: Given<'_>,
+        place: u32,
+        pairs: &[(u32, i64)],
+        walks: &[(u32, i64)],
+    ) -> Result<u64, AllocError> {
         let path = given.shape.path(self.alloc, given.lines, place)?;
         let ranges = self.ranges_below(&path)?;
-        let offsets = offsets_of(self.alloc, &ranges, &path, &leaf.pairs)?;
-        let walks = walks_of(self.alloc, given.walks, &leaf.walks)?;
-        let mut relaxation = self.sharpener.told(&offsets, &walks)?;
+        let offsets = offsets_of(self.alloc, &ranges, &path, pairs)?;
+        let mut relaxation = self.sharpener.told(&offsets, walks)?;
         let bound = relaxation.bound();
-        if bound < given.limit.cost {
-            let count = leaf.pairs.len().saturating_add(walks.len());
-            let start = self.start_of(given, &relaxation, &ranges, &path, count)?;
+        let start = if bound < given.limit.cost {
+            let count = pairs.len().saturating_add(walks.len());
+            Some(self.start_of(given, &relaxation, &ranges, &path, count))
+        } else {
+            None
+        };
+        drop(relaxation);
+        if let Some(start) = start {
+            let start = start?;
             self.leaves.push(Open {
                 place,
                 bound,
                 start,
             })?;
         }
-        let pairs = Vec::from_slice(self.alloc, &leaf.pairs)?;
-        Ok(Knot::Leaf {
-            leaf: LeafMultipliers { pairs, walks },
-            bound,
-        })
+        Ok(bound)
     }
 
     /// What a line that is given becomes.
@@ -216,14 +231,28 @@ impl Sharpening {
     /// that is known are open. Leaves without walks get the inequalities that were found so far. False, and nothing is done,
     /// where a step was made, or the lines aren't those of one tree.
     pub fn take_up(&mut self, given: &Sharpened, best: Option<u64>) -> Result<bool, Memory> {
-        let Some(shape) = Shape::of(self.alloc, &given.lines)? else {
-            return Ok(false);
-        };
         if self.tree.knots.len() > 1 {
             return Ok(false);
         }
-        let mut old = Vec::new(self.alloc);
-        swap(&mut old, &mut self.leaves);
+        let Some(shape) = Shape::of(self.alloc, &given.lines)? else {
+            return Ok(false);
+        };
+        let old = replace(&mut self.leaves, Vec::new(self.alloc));
+        let limit = self.sharpener.setting.limit(best);
+        let taken = self.take_tree(given, &shape, &old, limit);
+        drop(old);
+        taken?;
+        Ok(true)
+    }
+
+    /// Puts a tree of this shape in the place of its own, whose open leaves these were.
+    fn take_tree(
+        &mut self,
+        given: &Sharpened,
+        shape: &Shape,
+        old: &[Open],
+        limit: Limit,
+    ) -> Result<(), AllocError> {
         let common = match old.first() {
             Some(open) => open.pooled(self.alloc)?,
             None => Vec::new(self.alloc),
@@ -231,43 +260,25 @@ impl Sharpening {
         self.leave_shared();
         self.begin_with(given)?;
         let walks = self.take_walks(&given.walks)?;
-        let limit = self.sharpener.setting.limit(best);
-        self.share_all(&common, &walks, limit)?;
+        self.share_given(&common, &walks, limit)?;
         self.take_lines(Given {
             lines: &given.lines,
-            shape: &shape,
+            shape,
             walks: &walks,
             common: &common,
             limit,
         })?;
         self.sort_leaves();
-        self.leave(&old)?;
-        self.sharpener.let_go(&walks)?;
-        Ok(true)
-    }
-
-    /// Leaves go on by exchanges over these inequalities and those of walks, where exchanges are for them.
-    fn share_all(
-        &mut self,
-        common: &[u32],
-        walks: &[Option<u32>],
-        limit: Limit,
-    ) -> Result<(), AllocError> {
-        let mut numbers = Vec::from_slice(self.alloc, common)?;
-        for walk in walks {
-            if let Some(number) = *walk {
-                numbers.push(number)?;
-            }
-        }
-        self.share_given(&numbers, limit)
+        self.leave(old)?;
+        self.sharpener.let_go(&walks)
     }
 
     /// The program that leaves shared goes.
     fn leave_shared(&mut self) {
-        if let Some(shared) = &self.shared {
+        if let Some(shared) = replace(&mut self.shared, None) {
             shared.leave(&mut self.sharpener.pool);
+            drop(shared);
         }
-        self.shared = None;
         self.carried = None;
     }
 

@@ -4,16 +4,8 @@
 #![tactic(auto)]
 
 mod given;
-mod leaves;
-mod lines;
 mod opens;
-mod proposals;
-mod shape;
-mod sharpened;
 mod sharpening;
-mod tree;
-mod trials;
 mod warm;
 
-pub use sharpened::{LeafMultipliers, SharpLine, Sharpened};
 pub use sharpening::{Sharpening, Step};

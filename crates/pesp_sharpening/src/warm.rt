@@ -1,15 +1,12 @@
 //! Steps by exchanges over the program that all leaves share.
 
 use crate::opens::{LeafStart, Open};
-use crate::proposals::times_near;
-use crate::sharpened::LeafMultipliers;
 use crate::sharpening::{Sharpening, Step};
-use crate::tree::Knot;
-use pesp_offset_cuts::{Candidate, open_cut};
+use pesp_offset_tree::{Candidate, Knot, LeafMultipliers, open_cut, times_near};
 use pesp_sharp_nodes::{BoundSense, Limit, NodeProgram, UNIT};
 use pesp_warm_nodes::{NodeBasis, Shared, ShownBound, SolveStatus, note};
-use std::alloc::AllocError;
-use std::mem::swap;
+use std::alloc::{AllocError, Global};
+use std::mem::replace;
 
 /// Down to which depth inequalities are sought, and down to which where there are many rows.
 const NEAR_ROOT: u32 = 6;
@@ -28,6 +25,21 @@ struct Above {
     place: u32,
     bound: u64,
     depth: u32,
+}
+
+/// Inequalities of the pool, and behind them those of walks that have one.
+fn with_walks(
+    alloc: Global,
+    common: &[u32],
+    walks: &[Option<u32>],
+) -> Result<Vec<u32>, AllocError> {
+    let mut numbers = Vec::from_slice(alloc, common)?;
+    for walk in walks {
+        if let Some(number) = *walk {
+            numbers.push(number)?;
+        }
+    }
+    Ok(numbers)
 }
 
 /// A leaf of what is shown.
@@ -52,20 +64,35 @@ impl Sharpening {
         relaxation: &NodeProgram,
         limit: Limit,
     ) -> Result<bool, AllocError> {
-        if !self.is_leaf() {
+        if !self.tree.is_leaf() {
             return Ok(false);
         }
         let Some(mut shared) = Shared::of(&mut self.sharpener, relaxation)? else {
             return Ok(false);
         };
         let begun = self.begin_shared(&mut shared, limit);
-        if let Ok(true) = begun {
-            self.shared = Some(shared);
+        self.share_if(shared, begun)
+    }
+
+    /// Leaves share a program, where it is for them; else it goes.
+    fn share_if(
+        &mut self,
+        shared: Shared,
+        suits: Result<bool, AllocError>,
+    ) -> Result<bool, AllocError> {
+        if let Ok(true) = suits {
+            let shared = Box::new(self.alloc, shared)?;
+            self.put_shared(shared);
         } else {
             shared.leave(&mut self.sharpener.pool);
             drop(shared);
         }
-        begun
+        suits
+    }
+
+    /// Leaves share this program.
+    fn put_shared(&mut self, shared: Box<Shared>) {
+        drop(replace(&mut self.shared, Some(shared)));
     }
 
     /// Goes on from the root by exchanges over inequalities that were taken in, where they are for it; whether they are.
@@ -74,47 +101,31 @@ impl Sharpening {
         walks: &[Option<u32>],
         limit: Limit,
     ) -> Result<bool, AllocError> {
-        let mut numbers = Vec::new(self.alloc);
-        for number in walks {
-            if let Some(number) = *number {
-                numbers.push(number)?;
-            }
-        }
-        if !self.is_leaf() {
+        if !self.tree.is_leaf() {
             return Ok(false);
         }
+        let numbers = with_walks(self.alloc, &[], walks)?;
         let Some(mut shared) = Shared::given(&mut self.sharpener, &numbers)? else {
             return Ok(false);
         };
         let begun = self.begin_part(&mut shared, limit);
-        if let Ok(true) = begun {
-            self.shared = Some(shared);
-        } else {
-            shared.leave(&mut self.sharpener.pool);
-            drop(shared);
-        }
-        begun
+        self.share_if(shared, begun)
     }
 
-    /// A tree that is given goes on by exchanges over these inequalities of the pool, where they are for it.
-    pub(crate) fn share_given(&mut self, numbers: &[u32], limit: Limit) -> Result<(), AllocError> {
-        let Some(mut shared) = Shared::given(&mut self.sharpener, numbers)? else {
+    /// A tree that is given goes on by exchanges over these inequalities of the pool and those of walks, where they are for it.
+    pub(crate) fn share_given(
+        &mut self,
+        common: &[u32],
+        walks: &[Option<u32>],
+        limit: Limit,
+    ) -> Result<(), AllocError> {
+        let numbers = with_walks(self.alloc, common, walks)?;
+        let Some(mut shared) = Shared::given(&mut self.sharpener, &numbers)? else {
             return Ok(());
         };
         let suits = shared.suits(limit);
-        if let Ok(true) = suits {
-            self.shared = Some(shared);
-        } else {
-            shared.leave(&mut self.sharpener.pool);
-            drop(shared);
-        }
-        suits?;
+        self.share_if(shared, suits)?;
         Ok(())
-    }
-
-    /// Whether the tree is one leaf.
-    fn is_leaf(&self) -> bool {
-        matches!(self.tree.knots.first(), Some(Knot::Leaf { .. }))
     }
 
     /// Solves the root, and makes it the leaf of the tree.
@@ -191,6 +202,7 @@ impl Sharpening {
         limit: Limit,
     ) -> Result<(), AllocError> {
         if bound >= limit.cost {
+            drop(basis);
             return Ok(());
         }
         basis.keep_in(&mut self.sharpener.pool);
@@ -208,13 +220,11 @@ impl Sharpening {
         basis: &NodeBasis,
         limit: Limit,
     ) -> Result<Step, AllocError> {
-        let mut held = None;
-        swap(&mut held, &mut self.shared);
-        let Some(mut shared) = held else {
+        let Some(mut shared) = replace(&mut self.shared, None) else {
             return Ok(Step::Readied);
         };
         let worked = self.work_shared(&mut shared, open, basis, limit);
-        self.shared = Some(shared);
+        self.put_shared(shared);
         worked
     }
 
@@ -475,21 +485,16 @@ impl Sharpening {
         if !self.is_next(open.bound, above, limit) {
             return self.put_open(open);
         }
-        let mut other = Some(open);
-        swap(&mut other, &mut self.next);
-        shared.carry()?;
-        match other {
-            Some(other) => self.put_open(other),
-            None => Ok(()),
+        if let Some(other) = replace(&mut self.next, Some(open)) {
+            self.put_open(other)?;
         }
+        shared.carry()
     }
 
     /// Puts the part that is gone on with behind all other leaves.
     fn put_next(&mut self) -> Result<(), AllocError> {
-        let mut next = None;
-        swap(&mut next, &mut self.next);
         self.carried = None;
-        if let Some(open) = next {
+        if let Some(open) = replace(&mut self.next, None) {
             self.carried = Some(open.place);
             self.leaves.push(open)?;
         }

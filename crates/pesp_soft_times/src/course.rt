@@ -2,12 +2,13 @@
 //! another.
 
 use crate::effort::{SoftEffort, may_merge};
+use crate::merge::Merge;
 use crate::plans::{between, individual, reheat};
 use crate::soft_search::{Anneal, Annealed, SoftSearch};
 use pesp_network::Network;
 use pesp_problem::Memory;
 use pesp_soft_annealing::AnnealPlan;
-use pesp_timetables::{Found, Merge};
+use pesp_timetables::Found;
 use std::alloc::Global;
 use std::mem::replace;
 

@@ -1,14 +1,13 @@
 //! Timetables by anneals in which spans may be broken.
 
 use crate::course::Course;
+use crate::fixed_offsets::{MOST_REOPTIMISED, reoptimised};
 use pesp_forest::Random;
 use pesp_network::Network;
 use pesp_problem::Memory;
 use pesp_propagate::dive_to;
 use pesp_soft_annealing::{AnnealPlan, SoftAnnealer};
-use pesp_timetables::{
-    Cheapest, Found, MOST_REOPTIMISED, cheaper, reoptimised, slacks_of, times_of,
-};
+use pesp_timetables::{Cheapest, Found, cheaper, slacks_of, times_of};
 use std::alloc::{AllocError, Global};
 
 /// How many tries a dive has towards the times of what wasn't mended.

@@ -5,10 +5,10 @@ ghost use Rattle.pesp_problem.specs.declared.limits.TheConstants.{MOST_STEPS};
 ghost use Rattle.pesp_truth.specs.Certificates.{IsValid};
 ghost use Rattle.pesp_worker.specs.HandingIn.{IsWorkOn, IsWorkRefusal};
 
+use crate::TimesSearch;
 use pesp_cert::Certificate;
 use pesp_cert_items::WorkText;
 use pesp_problem::Instance;
-use pesp_times::TimesSearch;
 use pesp_worker::{WorkRefusal, work_on_all};
 use std::alloc::Global;
 

@@ -5,16 +5,16 @@ ghost use Rattle.std.specs.Io.KnownBytes.{Appends};
 ghost use Rattle.std.specs.List.Sorted.{IsStrictlyIncreasing};
 ghost use Rattle.pesp_problem.specs.declared.limits.TheConstants.{MOST_STEPS};
 ghost use Rattle.pesp_stream.specs.Counts.{FewerThan, HasWorked};
-ghost use Rattle.pesp_check_run.specs.Devices.{over};
+ghost use Rattle.pesp_check.specs.Devices.{over};
 ghost use Rattle.pesp_runs.specs.Reading.{HasBase};
 ghost use Rattle.pesp_tasks.specs.Solving.{Solves, SolveCause};
 ghost use Rattle.pesp_tasks.specs.Outside.{WritesWorks, WorkCause};
 
+use crate::TimesSearch;
 use pesp_runs::{Fault, run_alone, run_on_base};
 use pesp_search::Nobody;
 use pesp_stream::{Sink, Source};
 use pesp_tasks::{Solve, WorkTask};
-use pesp_times::TimesSearch;
 use std::alloc::Global;
 
 /// Reads an instance, searches for a best timetable by at most so many splits of a leaf, and writes a certificate of what was

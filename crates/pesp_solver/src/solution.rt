@@ -5,9 +5,9 @@ ghost use Rattle.pesp_problem.specs.declared.limits.TheConstants.{MOST_STEPS};
 ghost use Rattle.pesp_search.specs.Refusals.{MeetsLimit};
 ghost use Rattle.pesp_search.specs.Solving.{IsSolved, IsSearchRefusal};
 
+use crate::TimesSearch;
 use pesp_problem::Instance;
 use pesp_search::{Nobody, SolveRefusal, Solved, solve_watched};
-use pesp_times::TimesSearch;
 use std::alloc::Global;
 
 /// Searches for a best timetable, by at most so many splits of a leaf. The certificate is valid for the instance. An answer

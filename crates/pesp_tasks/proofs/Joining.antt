@@ -17,11 +17,11 @@ use Rattle.pesp_cert.proofs.TextLengths.{texts_short}
 use Rattle.pesp_cert_items.specs.Texts.{RefusesText}
 use Rattle.pesp_judges.specs.declared.refusal.Verdict.{Verdict}
 use Rattle.pesp_judges.specs.declared.refusal.Verdict.TheVariants.{Accepted}
-use Rattle.pesp_check_run.specs.Checking.{Checks, ReadsInstance, RefusesInstance}
-use Rattle.pesp_runs.specs.Reading.{HasBase, ReadsTimetable}
+use Rattle.pesp_check.specs.Checking.{Checks, ReadsInstance, RefusesInstance}
+use Rattle.pesp_runs.specs.Reading.{ReadsBase, ReadsTimetable}
 use Rattle.pesp_tasks.specs.Solving.{Solves, WritesSolution}
 use Rattle.pesp_runs.specs.Bases.{ReadsSharpBase}
-use Rattle.pesp_runs.specs.Runs.{OverBase}
+use Rattle.pesp_runs.specs.Runs.{OverBase, OverWorks}
 use Rattle.pesp_tasks.specs.Resuming.{WritesResumed, GoesOnBy, WritesGoneOn}
 use Rattle.pesp_tasks.specs.Outside.{Grafts}
 
@@ -89,7 +89,7 @@ pub accepts_from_times : (text before bytes : List ℕ)
     → Checks Plain (Some text) left_instance (Some bytes) left_certificate period verdict (Appends old new)
     → verdict ≡ Accepted
 accepts_from_times text before bytes left times left_times left_instance left_certificate old new period steps verdict
-    (p, read, (begun, reads, is, solved)) =
+    (p, read, (begun, reads, solved)) =
     accepts_written Plain text before bytes left left_instance left_certificate old new period verdict p None solved.certificate read
     solved.solved.valid solved.has_text solved.written
 
@@ -109,12 +109,13 @@ accepts_what_is_gone_on_from text before bytes left base left_base left_instance
 pub accepts_what_is_grafted : (text before bytes : List ℕ)
     (left base left_base works left_works left_instance left_certificate told_old told_new old new : Option (List ℕ)) (period : ℕ)
     (verdict : Verdict)
-    → HasBase (Some text) left base left_base period
-    (λ p begun. Grafts works left_works p begun (Appends (Some before) (Some (before ++ bytes))) (Appends told_old told_new))
+    → OverWorks ReadsBase (Some text) left base left_base works left_works period
+    (λ p begun work. Grafts p begun work (Appends (Some before) (Some (before ++ bytes))) (Appends told_old told_new))
     → Checks Plain (Some text) left_instance (Some bytes) left_certificate period verdict (Appends old new)
     → verdict ≡ Accepted
 accepts_what_is_grafted text before bytes left base left_base works left_works left_instance left_certificate told_old told_new old
-    new period verdict (p, read, (begun, reads, (are, reads_works, grafted))) =
+    new period verdict (p, read, (begun, reads, next)) =
+    let (are, is_text, grafted) = next.holds in
     accepts_written Plain text before bytes left left_instance left_certificate old new period verdict p None grafted.certificate read
     grafted.grafted.valid grafted.has_text grafted.written
 

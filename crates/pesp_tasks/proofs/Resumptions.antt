@@ -9,7 +9,7 @@ use Rattle.pesp_cert.specs.Fronted.{Fronted}
 use Rattle.pesp_turns.specs.declared.resume_ending.ResumeEnding.{ResumeEnding}
 use Rattle.pesp_turns.specs.Resuming.{IsResumed}
 use Rattle.pesp_turns.proofs.Resumptions.{resumed_weaker}
-use Rattle.pesp_check_run.specs.Devices.{Device, GetsFront}
+use Rattle.pesp_check.specs.Devices.{Device, GetsFront}
 use Rattle.pesp_runs.specs.Causes.{OutCause}
 use Rattle.pesp_runs.specs.declared.fault.Fault.{Fault}
 use Rattle.pesp_runs.specs.declared.fault.Fault.TheVariants.{Instance, Certificate, Times, Names, Search, Report, Base, Works, NoJob, Memory, Read, Write, NoFile}

@@ -8,13 +8,13 @@ use Rattle.pesp_judges.specs.declared.refusal.Verdict.TheVariants.{Accepted}
 use Rattle.pesp_truth.specs.Certificates.{IsValid, Front as FrontOf}
 use Rattle.pesp_cert.specs.Fronted.{Fronted, IsFrontedText, fronted_text}
 use Rattle.pesp_cert_lines.specs.declared.versions.Versions.TheVariants.{All}
-use Rattle.pesp_check_run.specs.Checking.{Checks, ReadsInstance}
+use Rattle.pesp_check.specs.Checking.{Checks, ReadsInstance}
 use Rattle.pesp_runs.specs.Reading.{ReadsTimetable}
 use Rattle.pesp_runs.specs.Bases.{ReadsSharpBase}
-use Rattle.pesp_runs.specs.Runs.{OverBase}
+use Rattle.pesp_runs.specs.Runs.{OverBase, OverWorks}
 use Rattle.pesp_tasks.specs.Resuming.{GoesOnBy, WritesGoneOn}
 use Rattle.pesp_tasks.specs.SharpSolving.{SolvesSharp, ResumesSharp, WritesSharpSolution}
-use Rattle.pesp_tasks.specs.SharpOutside.{WritesSharpWork, GraftsSharp}
+use Rattle.pesp_tasks.specs.SharpOutside.{WritesSharpWork, WritesSharpGraft}
 use Rattle.pesp_tasks.proofs.Joining.{accepts_written}
 
 -- a certificate that is valid for the instance of a text with its marked walks is accepted for it, where its text was appended
@@ -43,7 +43,7 @@ pub accepts_from_times : (text before bytes : List ℕ)
     → Checks All (Some text) left_instance (Some bytes) left_certificate period verdict (Appends old new)
     → verdict ≡ Accepted
 accepts_from_times text before bytes left times left_times left_instance left_certificate old new period steps verdict
-    (p, read, (begun, reads, is, solved)) =
+    (p, read, (begun, reads, solved)) =
     accepts_fronted text before bytes left left_instance left_certificate old new period verdict p solved.certificate read
     solved.solved.valid solved.has_text solved.written
 
@@ -97,8 +97,8 @@ accepts_what_is_worked_on text before bytes left base left_base left_instance le
 pub accepts_what_is_grafted : (text before bytes : List ℕ)
     (left base left_base works left_works left_instance left_certificate told_old told_new old new : Option (List ℕ)) (period : ℕ)
     (verdict : Verdict)
-    → OverBase ReadsSharpBase (Some text) left base left_base period
-    (λ p begun. GraftsSharp works left_works p begun (Appends (Some before) (Some (before ++ bytes))) (Appends told_old told_new))
+    → OverWorks ReadsSharpBase (Some text) left base left_base works left_works period
+    (λ p begun work. WritesSharpGraft p begun work (Appends (Some before) (Some (before ++ bytes))) (Appends told_old told_new))
     → Checks All (Some text) left_instance (Some bytes) left_certificate period verdict (Appends old new)
     → verdict ≡ Accepted
 accepts_what_is_grafted text before bytes left base left_base works left_works left_instance left_certificate told_old told_new old

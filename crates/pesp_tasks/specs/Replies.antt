@@ -1,7 +1,7 @@
 -- The lines that are told of works.
 use Rattle.std.specs.Prelude.{ℕ, ◌+◌, List, [], ◌∷◌, ◌++◌, codes, decimal}
 use Rattle.pesp_cert.specs.RefusalLines.{certificate_line}
-use Rattle.pesp_check_run.specs.Verdicts.{refusal_text}
+use Rattle.pesp_check.specs.Verdicts.{refusal_text}
 use Rattle.pesp_sharp_search.specs.declared.sharp_graft.SharpReply.{SharpReply}
 use Rattle.pesp_sharp_search.specs.declared.sharp_graft.SharpReply.TheVariants.{Taken, AddsNothing, Unread, NotValid, TooLarge}
 

@@ -5,7 +5,7 @@ use Rattle.pesp_truth.specs.Truth.{IsTrueAnswer}
 use Rattle.pesp_truth.specs.Certificates.{Content, shown_times}
 use Rattle.pesp_cert.specs.Texts.{spelling, HasText}
 use Rattle.pesp_search.specs.Solving.{IsSolved, CostsNoMore}
-use Rattle.pesp_check_run.specs.Devices.{Device, HasFailed, GetsFront}
+use Rattle.pesp_check.specs.Devices.{Device, HasFailed, GetsFront}
 use Rattle.pesp_runs.specs.Reading.{ReadsInstance}
 use Rattle.pesp_runs.specs.Causes.{InstanceCause, SearchCause, LimitCause, OutCause}
 use Rattle.pesp_runs.specs.declared.fault.Fault.{Fault}

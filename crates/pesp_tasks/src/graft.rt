@@ -1,23 +1,26 @@
 //! Works grafted onto a certificate.
 
-ghost use Rattle.std.specs.Prelude.{◌≡◌, ◌≢◌, ◌<◌, ◌^◌, OnOk, IfOk, IfErr, None};
+ghost use Rattle.std.specs.Prelude.{◌≡◌, ◌≢◌, ◌<◌, ◌^◌, List, OnOk, IfOk, IfErr, None};
 ghost use Rattle.std.specs.Io.KnownBytes.{Appends};
 ghost use Rattle.pesp_stream.specs.Counts.{FewerThan, HasWorked};
 ghost use Rattle.pesp_truth.specs.Certificates.{IsValid};
-ghost use Rattle.pesp_check_run.specs.Devices.{over};
-ghost use Rattle.pesp_runs.specs.Reading.{HasBase};
-ghost use Rattle.pesp_runs.specs.Causes.{OutCause};
-ghost use Rattle.pesp_tasks.specs.Outside.{works_fault, ReadsWorkTexts, WorksCause, WritesGraft, Grafts, GraftCause, CutsGraft};
+ghost use Rattle.pesp_cert_items.specs.Works.{WorkValue};
+ghost use Rattle.pesp_cert_items.specs.Refusals.{IsTextOfWorks};
+ghost use Rattle.pesp_worker.specs.Grafts.{IsGrafted};
+ghost use Rattle.pesp_check.specs.Devices.{over};
+ghost use Rattle.pesp_runs.specs.Reading.{ReadsBase};
+ghost use Rattle.pesp_runs.specs.Runs.{OverWorks};
+ghost use Rattle.pesp_tasks.specs.Outside.{works_fault, WorksCause, Grafts, GraftCause};
 
 use pesp_cert::{CertRefusal, Certificate, print};
-use pesp_cert_items::{WorkText, parse_works};
+use pesp_cert_items::parse_works;
 use pesp_problem::Instance;
-use pesp_runs::{Fault, MOST_TEXT, read_base, read_whole_instance};
-use pesp_stream::{Sink, Source, print_to, read_all};
-use pesp_worker::{RepliesText, graft};
+use pesp_runs::{Fault, OnWorks, run_on_works};
+use pesp_stream::{Sink, Source, print_to};
+use pesp_worker::{Grafted, RepliesText, graft};
 use std::alloc::Global;
 
-/// Why there are no works.
+/// Why a text isn't that of works.
 fn works_fault(refusal: CertRefusal) -> Fault
     ensures { result ≡ works_fault refusal }
 {
@@ -27,57 +30,57 @@ fn works_fault(refusal: CertRefusal) -> Fault
     }
 }
 
-/// Reads works.
+/// Grafts the works of a text onto a valid certificate.
 #[tactic(auto, using(crate::proofs::Causes::works_cause))]
-fn read_works<R: Source>(alloc: Global, reader: &mut R) -> Result<Vec<WorkText>, Fault>
-    requires fits { FewerThan (2 ^ 63) (R.calls reader.old) }
-    ensures ok { IfOk result
-        (λ works. ReadsWorkTexts (R.remaining reader.old) (R.remaining reader.new) works.items) }
-    ensures counts { OnOk result (HasWorked (R.calls reader.old) (R.calls reader.new)) }
-    ensures counts_else { IfErr result (λ fault. fault ≢ Fault.Read → HasWorked (R.calls reader.old) (R.calls reader.new)) }
-    ensures cause { IfErr result
-        (λ fault. WorksCause fault
-        (over (R.remaining reader.old) (R.remaining reader.new)
-        (R.calls reader.old) (R.calls reader.new))) }
+fn graft_text(
+    alloc: Global,
+    instance: &Instance,
+    base: &Certificate,
+    text: &[u8],
+) -> Result<Grafted, Fault>
+    requires valid { IsValid None instance.now base.now }
+    ensures ok { IfOk result (λ grafted. (works : List WorkValue) × IsTextOfWorks text.now works
+        × IsGrafted instance.now base.now works grafted.replies.items grafted.certificate) }
+    ensures cause { IfErr result (λ fault. WorksCause fault text.now) }
 {
-    let text = read_all(alloc, reader, MOST_TEXT)?;
-    match parse_works(alloc, &text) {
-        Ok(works) => Ok(works),
+    match parse_works(alloc, text) {
+        Ok(works) => Ok(graft(alloc, instance, base, works)?),
         Err(refusal) => Err(works_fault(refusal)),
     }
 }
 
-/// Grafts works onto a valid certificate, writes the certificate that comes of it, and then tells what became of each work.
-fn write_graft<W: Sink, E: Sink>(
-    alloc: Global,
-    instance: &Instance,
-    base: &Certificate,
-    works: Vec<WorkText>,
-    writer: &mut W,
-    teller: &mut E,
-) -> Result<(), Fault>
-    requires valid { IsValid None instance.now base.now }
-    requires writes_fit { FewerThan (2 ^ 63) (W.calls writer.old) }
-    requires tellings_fit { FewerThan (2 ^ 63) (E.calls teller.old) }
-    ensures ok { OnOk result (WritesGraft instance.now base.now works.items
-        (Appends (W.contents writer.old) (W.contents writer.new))
-        (Appends (E.contents teller.old) (E.contents teller.new))) }
-    ensures writes { OnOk result (HasWorked (W.calls writer.old) (W.calls writer.new)) }
-    ensures tellings { OnOk result (HasWorked (E.calls teller.old) (E.calls teller.new)) }
-    ensures cause { IfErr result (λ fault. OutCause fault
-        (CutsGraft instance.now base.now works.items
-        (over (W.contents writer.old) (W.contents writer.new)
-        (W.calls writer.old) (W.calls writer.new))
-        (over (E.contents teller.old) (E.contents teller.new)
-        (E.calls teller.old) (E.calls teller.new)))) }
-    ensures silent { IfErr result (λ fault. fault ≢ Fault.Write → writer.new ≡ writer.old) }
-    ensures untold { IfErr result (λ fault. fault ≢ Fault.Write → teller.new ≡ teller.old) }
-{
-    instance.period();
-    let grafted = graft(alloc, instance, base, works)?;
-    print(&grafted.certificate, writer)?;
-    print_to(teller, &RepliesText(&grafted.replies))?;
-    Ok(())
+/// Works that are grafted onto a certificate: the certificate that comes of it is written, and what became of each work is told.
+#[derive(Clone, Copy)]
+pub struct Graft;
+
+impl OnWorks for Graft {
+    ghost use Rattle.std.specs.Prelude.{◌⊎◌};
+    ghost use Rattle.pesp_runs.specs.Causes.{OutCause};
+    ghost use Rattle.pesp_tasks.specs.Outside.{WorksCause, Grafts};
+
+    type Base = Certificate;
+
+    ghost writes = { λ _ p base text Gets Tells. Grafts p base text Gets Tells };
+
+    ghost stops = { λ _ p base text fault cut. WorksCause fault text ⊎ OutCause fault cut };
+
+    fn write<W: Sink, E: Sink>(
+        &self,
+        alloc: Global,
+        instance: &Instance,
+        base: Certificate,
+        works: &[u8],
+        writer: &mut W,
+        teller: &mut E,
+    ) -> Result<(), Fault> {
+        instance.period();
+        let grafted = graft_text(alloc, instance, &base, works);
+        drop(base);
+        let grafted = grafted?;
+        print(&grafted.certificate, writer)?;
+        print_to(teller, &RepliesText(&grafted.replies))?;
+        Ok(())
+    }
 }
 
 /// Reads an instance, then a certificate that is valid for it, and then works, whoever made them; grafts the works onto the
@@ -98,10 +101,11 @@ pub fn run_graft<R: Source, B: Source, T: Source, W: Sink, E: Sink>(
     requires works_reads_fit { FewerThan (2 ^ 62) (T.calls works_reader.old) }
     requires writes_fit { FewerThan (2 ^ 62) (W.calls writer.old) }
     requires tellings_fit { FewerThan (2 ^ 62) (E.calls teller.old) }
-    ensures ok { OnOk result
-        (HasBase (R.remaining instance_reader.old) (R.remaining instance_reader.new)
-        (B.remaining base_reader.old) (B.remaining base_reader.new) period
-        (λ p base. Grafts (T.remaining works_reader.old) (T.remaining works_reader.new) p base
+    ensures ok { OnOk result (OverWorks ReadsBase
+        (R.remaining instance_reader.old) (R.remaining instance_reader.new)
+        (B.remaining base_reader.old) (B.remaining base_reader.new)
+        (T.remaining works_reader.old) (T.remaining works_reader.new) period
+        (λ p base works. Grafts p base works
         (Appends (W.contents writer.old) (W.contents writer.new))
         (Appends (E.contents teller.old) (E.contents teller.new)))) }
     ensures reads { OnOk result
@@ -130,8 +134,14 @@ pub fn run_graft<R: Source, B: Source, T: Source, W: Sink, E: Sink>(
     ensures silent { IfErr result (λ fault. fault ≢ Fault.Write → writer.new ≡ writer.old) }
     ensures untold { IfErr result (λ fault. fault ≢ Fault.Write → teller.new ≡ teller.old) }
 {
-    let instance = read_whole_instance(alloc, instance_reader, period)?;
-    let base = read_base(alloc, &instance, base_reader)?;
-    let works = read_works(alloc, works_reader)?;
-    write_graft(alloc, &instance, &base, works, writer, teller)
+    run_on_works(
+        alloc,
+        &Graft,
+        instance_reader,
+        base_reader,
+        works_reader,
+        writer,
+        teller,
+        period,
+    )
 }

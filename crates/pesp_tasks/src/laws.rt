@@ -8,15 +8,15 @@ ghost use Rattle.pesp_judges.specs.declared.refusal.Verdict.{Verdict};
 ghost use Rattle.pesp_judges.specs.declared.refusal.Verdict.TheVariants.{Accepted};
 ghost use Rattle.pesp_cert_lines.specs.declared.versions.Versions.TheVariants.{Plain, All};
 ghost use Rattle.pesp_cert_items.specs.Texts.{RefusesText};
-ghost use Rattle.pesp_check_run.specs.Checking.{Checks, RefusesInstance};
-ghost use Rattle.pesp_runs.specs.Reading.{HasBase, ReadsTimetable};
+ghost use Rattle.pesp_check.specs.Checking.{Checks, RefusesInstance};
+ghost use Rattle.pesp_runs.specs.Reading.{ReadsBase, ReadsTimetable};
 ghost use Rattle.pesp_runs.specs.Bases.{ReadsSharpBase};
-ghost use Rattle.pesp_runs.specs.Runs.{OverBase};
+ghost use Rattle.pesp_runs.specs.Runs.{OverBase, OverWorks};
 ghost use Rattle.pesp_tasks.specs.Solving.{Solves, WritesSolution};
 ghost use Rattle.pesp_tasks.specs.Resuming.{WritesGoneOn};
 ghost use Rattle.pesp_tasks.specs.Outside.{Grafts};
 ghost use Rattle.pesp_tasks.specs.SharpSolving.{SolvesSharp, ResumesSharp, WritesSharpSolution};
-ghost use Rattle.pesp_tasks.specs.SharpOutside.{WritesSharpWork, GraftsSharp};
+ghost use Rattle.pesp_tasks.specs.SharpOutside.{WritesSharpWork, WritesSharpGraft};
 
 /// The bytes that `run_solve` appended for an instance's text, within whichever number of steps, `run_check` accepts for the
 /// same text and period, where it answers Ok.
@@ -61,8 +61,8 @@ pub fn what_goes_on_is_accepted()
         → verdict ≡ Accepted }
     ensures grafted { (text before bytes : List ℕ) (left base left_base works left_works left_instance left_certificate told_old told_new old new : Option
         (List ℕ)) (period : ℕ) (verdict : Verdict)
-        → HasBase (Some text) left base left_base period
-        (λ p begun. Grafts works left_works p begun
+        → OverWorks ReadsBase (Some text) left base left_base works left_works period
+        (λ p begun work. Grafts p begun work
         (Appends (Some before) (Some (before ++ bytes))) (Appends told_old told_new))
         → Checks Plain (Some text) left_instance (Some bytes) left_certificate period verdict
         (Appends old new)
@@ -94,7 +94,7 @@ pub fn what_is_resumed_is_accepted()
 {}
 
 /// And so are the bytes that `SolveSharp` appended from times, that `Resume` appended, that `WorkSharp` appended, and that
-/// `run_graft_sharp` appended.
+/// `GraftSharp` appended.
 pub fn what_goes_on_with_marks_is_accepted()
     ensures from_times { (text before bytes : List ℕ) (left times left_times left_instance left_certificate old new : Option
         (List ℕ)) (period steps : ℕ) (verdict : Verdict)
@@ -119,8 +119,8 @@ pub fn what_goes_on_with_marks_is_accepted()
         → verdict ≡ Accepted }
     ensures grafted { (text before bytes : List ℕ) (left base left_base works left_works left_instance left_certificate told_old told_new old new : Option
         (List ℕ)) (period : ℕ) (verdict : Verdict)
-        → OverBase ReadsSharpBase (Some text) left base left_base period
-        (λ p begun. GraftsSharp works left_works p begun
+        → OverWorks ReadsSharpBase (Some text) left base left_base works left_works period
+        (λ p begun work. WritesSharpGraft p begun work
         (Appends (Some before) (Some (before ++ bytes))) (Appends told_old told_new))
         → Checks All (Some text) left_instance (Some bytes) left_certificate period verdict
         (Appends old new)

@@ -3,7 +3,7 @@
 ghost use Rattle.std.specs.Prelude.{◌≡◌, ◌++◌, OnOk, IfOk, string_bytes};
 ghost use Rattle.pesp_tasks.specs.Replies.{sharp_reply_line, lines_from};
 
-use pesp_check_run::RefusalText;
+use pesp_check::RefusalText;
 use pesp_problem::Memory;
 use pesp_sharp_search::SharpReply;
 use std::alloc::Global;

@@ -3,7 +3,7 @@
 ghost use Rattle.std.specs.Prelude.{◌≡◌, ◌≢◌, ◌<◌, ◌^◌, OnOk, IfErr};
 ghost use Rattle.std.specs.Io.KnownBytes.{Appends};
 ghost use Rattle.pesp_stream.specs.Counts.{FewerThan, HasWorked};
-ghost use Rattle.pesp_check_run.specs.Devices.{over, HasFailed, GetsFront};
+ghost use Rattle.pesp_check.specs.Devices.{over, HasFailed, GetsFront};
 ghost use Rattle.pesp_runs.specs.Causes.{OutCause};
 ghost use Rattle.pesp_runs.specs.Bases.{IsSharpBase};
 ghost use Rattle.pesp_tasks.specs.SharpSolving.{WritesSharpResumed};

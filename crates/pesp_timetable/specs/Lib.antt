@@ -1,4 +1,3 @@
 pub mod Timetable
 pub mod Objects
 pub mod Texts
-pub mod Fixing

@@ -7,7 +7,7 @@ use Rattle.json.specs.Tree.{json_tokens}
 use Rattle.json.specs.Print.{print}
 use Rattle.json.specs.Written.{Written}
 use Rattle.pesp_timetable.specs.Timetable.{clock_text, told_line, direction_of, station_of, told_kind, told_name, changes_of}
-use Rattle.pesp_timetable.specs.declared.told.Told.{Told}
+use Rattle.pesp_railway.specs.declared.told.Told.{Told}
 use Rattle.pesp_timetable.specs.declared.entry.Entry.{Entry}
 
 -- the members of an event: numbers where the column has numbers, and texts else

@@ -3,7 +3,7 @@ use Rattle.std.specs.Prelude.{◌≡◌, ℕ, List, Bool, true, false, IsPermuta
 use Rattle.pesp_problem.specs.Timetables.{Pesp}
 use Rattle.pesp_timetable.specs.Timetable.{entries_of, entry_goes_before, timetable_text}
 use Rattle.pesp_timetable.specs.Objects.{timetable_json}
-use Rattle.pesp_timetable.specs.declared.told.Told.{Told}
+use Rattle.pesp_railway.specs.declared.told.Told.{Told}
 use Rattle.pesp_timetable.specs.declared.entry.Entry.{Entry}
 
 -- these events as JSON, or as records

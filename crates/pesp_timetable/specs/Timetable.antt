@@ -3,12 +3,9 @@ use Rattle.std.specs.Prelude.{ℕ, ◌+◌, ◌*◌, ◌/◌, ◌%◌, ◌==◌,
 use Rattle.std.specs.List.{enumerate_from}
 use Rattle.std.specs.Fmt.{decimal, signed_decimal}
 use Rattle.pesp_problem.specs.Timetables.{Pesp}
-use Rattle.pesp_railway.specs.declared.step.Direction.{Direction}
-use Rattle.pesp_railway.specs.declared.step.Direction.TheVariants.{Out, Back, Nowhere}
-use Rattle.pesp_railway.specs.declared.step.Halt.{Halt}
-use Rattle.pesp_railway.specs.declared.step.Halt.TheVariants.{Arrival, Departure, Pass, Other}
+use Rattle.pesp_railway.specs.Words.{direction_word, halt_word}
 use Rattle.pesp_report.specs.Report.{records_text}
-use Rattle.pesp_timetable.specs.declared.told.Told.{Told}
+use Rattle.pesp_railway.specs.declared.told.Told.{Told}
 use Rattle.pesp_timetable.specs.declared.entry.Entry.{Entry}
 
 -- minutes as hours and minutes, of two digits each where there are fewer than 100 hours
@@ -53,28 +50,15 @@ abbrev pub changes_of : Option Told → List ℕ
 changes_of None = []
 changes_of (Some told) = string_bytes told.changes
 
--- the words for the direction of its train, and for what the train does there
-abbrev pub direction_word : Direction → List ℕ
-direction_word Out = codes "out"
-direction_word Back = codes "back"
-direction_word Nowhere = []
-
 -- the direction of an event's train, empty where none is told
 abbrev pub direction_of : Option Told → List ℕ
 direction_of None = []
 direction_of (Some told) = direction_word told.step.direction
 
--- the word for what a train does at an event
-abbrev pub kind_word : Halt → List ℕ
-kind_word Arrival = codes "arrival"
-kind_word Departure = codes "departure"
-kind_word Pass = codes "pass"
-kind_word Other = []
-
 -- what the train of an event does there, empty where nothing is told
 abbrev pub told_kind : Option Told → List ℕ
 told_kind None = []
-told_kind (Some told) = kind_word told.step.halt
+told_kind (Some told) = halt_word told.step.halt
 
 -- ---- the records
 

@@ -1,29 +1,21 @@
-//! A timetable as records of csv or as JSON: by line and along the way of each train, one for each event, with its time and its
-//! changes.
-//!
-//! Events that are fixed: an instance with activities in front that hold them at times of a clock, judged by reading it back.
+//! A timetable by trains and stations, in the order of the ways of trains: as records of csv, as JSON, or as one page in HTML
+//! without a network, which has diagrams, the slack of each activity and what was found in plain words too.
 #![tactic(auto)]
 
-mod changes;
+mod claim;
 mod clock;
 mod entry;
-mod events;
-mod fixed;
-mod judge;
-mod lines;
+mod found;
 mod objects;
+mod page_frame;
 mod records;
-mod refusal;
-mod text;
-mod told;
-mod wanted_times;
-mod whole;
+mod slack;
+mod stops;
+mod trains;
+mod whole_page;
+mod whole_timetable;
 mod words;
 
-pub use clock::Clock;
-pub use entry::{Entry, entries_in_order};
-pub use events::Wanted;
-pub use fixed::fixed_text;
-pub use refusal::FixRefusal;
-pub use told::{Told, told_of_events};
-pub use whole::timetable;
+pub use claim::{Claim, claim_in};
+pub use whole_page::page;
+pub use whole_timetable::timetable;

@@ -8,10 +8,12 @@ ghost use Rattle.json.specs.Tree.{json_tokens};
 ghost use Rattle.pesp_timetable.specs.Objects.{Adds, entry_object, timetable_json, told_members, told_stop, told_time};
 
 use crate::entry::Entry;
-use crate::told::{Told, told_at};
-use crate::words::{changes_of, clock_of, direction_of, kind_of, line_of, name_of, station_of};
+use crate::words::{
+    changes_of, clock_of, direction_of, kind_of, line_of, name_of, station_of, told_at,
+};
 use json::Writer;
 use pesp_problem::Memory;
+use pesp_railway::Told;
 use std::alloc::{AllocError, Global};
 
 /// Writes a member with a number.

@@ -7,11 +7,13 @@ ghost use Rattle.pesp_report.specs.Written.{HasWritten};
 ghost use Rattle.pesp_timetable.specs.Timetable.{entry_fields, timetable_header, timetable_text, told_fields};
 
 use crate::entry::Entry;
-use crate::told::{Told, told_at};
-use crate::words::{changes_of, clock_of, direction_of, kind_of, line_of, name_of, station_of};
+use crate::words::{
+    changes_of, clock_of, direction_of, kind_of, line_of, name_of, station_of, told_at,
+};
 use csv::Writer;
 use itoa::Buffer;
 use pesp_problem::Memory;
+use pesp_railway::Told;
 use std::alloc::Global;
 
 /// Writes a record of these fields.

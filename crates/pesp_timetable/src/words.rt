@@ -1,14 +1,20 @@
 //! What is told of an event, in words.
 
-ghost use Rattle.std.specs.Prelude.{◌≡◌, option_copied, string_bytes, IfOk};
+ghost use Rattle.std.specs.Prelude.{◌≡◌, option_copied, slice_get, string_bytes, IfOk};
 ghost use Rattle.pesp_timetable.specs.Timetable.{clock_text};
 ghost use Rattle.pesp_timetable.specs.Timetable as spec;
 
 use crate::clock::Clock;
-use crate::told::Told;
 use pesp_problem::Memory;
-use pesp_railway::{Direction, Halt};
+use pesp_railway::Told;
 use std::alloc::Global;
+
+/// What is told of the event with a number, if something is.
+pub fn told_at(tolds: &[Told], event: usize) -> Option<&Told>
+    ensures { option_copied result ≡ slice_get tolds.now event }
+{
+    tolds.get(event)
+}
 
 /// The line of an event.
 pub fn line_of(told: Option<&Told>) -> &str
@@ -54,13 +60,9 @@ pub fn changes_of(told: Option<&Told>) -> &str
 pub fn direction_of(told: Option<&Told>) -> &str
     ensures { result.now ≡ spec.direction_of (option_copied told.entry) }
 {
-    let Some(told) = told else {
-        return "";
-    };
-    match told.step.direction {
-        Direction::Out => "out",
-        Direction::Back => "back",
-        Direction::Nowhere => "",
+    match told {
+        Some(told) => told.step.direction.word(),
+        None => "",
     }
 }
 
@@ -68,14 +70,9 @@ pub fn direction_of(told: Option<&Told>) -> &str
 pub fn kind_of(told: Option<&Told>) -> &str
     ensures { result.now ≡ spec.told_kind (option_copied told.entry) }
 {
-    let Some(told) = told else {
-        return "";
-    };
-    match told.step.halt {
-        Halt::Arrival => "arrival",
-        Halt::Departure => "departure",
-        Halt::Pass => "pass",
-        Halt::Other => "",
+    match told {
+        Some(told) => told.step.halt.word(),
+        None => "",
     }
 }
 

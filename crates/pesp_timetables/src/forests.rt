@@ -6,14 +6,14 @@ use std::alloc::{AllocError, Global};
 
 /// A row with a key by which rows are taken.
 #[derive(Clone, Copy)]
-pub(crate) struct Keyed {
-    pub(crate) key: u64,
-    pub(crate) row: u32,
+pub struct Keyed {
+    pub key: u64,
+    pub row: u32,
 }
 
 impl Keyed {
     /// Whether it comes before another: by its key, or by its row where keys are the same.
-    pub(crate) fn is_before(&self, other: &Keyed) -> bool {
+    pub fn is_before(&self, other: &Keyed) -> bool {
         self.key < other.key || self.key == other.key && self.row < other.row
     }
 }
@@ -53,7 +53,7 @@ fn keyed_by_span(
 }
 
 /// The rows of the forest of smallest keys, by their numbers from 1.
-pub(crate) fn least_rows(
+pub fn least_rows(
     alloc: Global,
     frame: &Frame,
     list: &mut Vec<Keyed>,
@@ -73,7 +73,7 @@ pub(crate) fn least_rows(
 }
 
 /// The rows of a forest of small span by weight, by their numbers from 1.
-pub(crate) fn light_forest(
+pub fn light_forest(
     alloc: Global,
     frame: &Frame,
     keys: Keys,

@@ -33,7 +33,7 @@ pub fn slacks_of(alloc: Global, network: &Network, times: &[u32]) -> Result<Vec<
 }
 
 /// Prices as times below a period.
-pub(crate) fn times_at(alloc: Global, period: u32, prices: &[i64]) -> Result<Vec<u32>, AllocError> {
+pub fn times_at(alloc: Global, period: u32, prices: &[i64]) -> Result<Vec<u32>, AllocError> {
     let mut times = Vec::with_capacity(alloc, prices.len())?;
     for price in prices {
         let time = price.checked_rem_euclid(i64::from(period)).unwrap_or(0);

@@ -1,25 +1,22 @@
-//! Timetables of a network by their slacks: the cheapest that was met; dives of the relaxation that lead to some; the cheapest
-//! one under the offsets of another; and networks in which several events are moved as one, so that a part is searched anew or
-//! what timetables have in common stays. Nothing is promised but that all is found safely.
+//! Timetables of a network by their slacks: the cheapest that was met, and dives of the relaxation that lead to some. The search for
+//! a spanning forest whose cycles promise a strong bound and leave few offsets open. Nothing is promised but that all is found
+//! safely, in so many steps, and the same in each run: what is proposed is judged by others.
 #![tactic(auto)]
 
-mod ball;
 mod cheapest;
-mod clusters;
-mod contraction;
 mod dives;
-mod fixed_offsets;
+mod exchange;
+mod forest_search;
 mod forests;
 mod found;
-mod merge;
+mod goal;
+mod heat;
 mod relaxation;
+mod settings;
+mod table;
 
-pub use ball::ball_around;
 pub use cheapest::Cheapest;
-pub use clusters::EventClusters;
-pub use contraction::ClusterContraction;
-pub use fixed_offsets::{MOST_REOPTIMISED, reoptimised};
-pub use forests::Keys;
-pub use found::{Found, cheaper, cost_of, slacks_of, times_of};
-pub use merge::Merge;
+pub use forest_search::search_forest;
+pub use forests::{Keyed, Keys, least_rows};
+pub use found::{Found, cheaper, cost_of, slacks_of, times_at, times_of};
 pub use relaxation::Relaxation;

@@ -23,3 +23,11 @@ pub mod LemmaLeaves
 pub mod Shown
 pub mod WorkedLemmas
 pub mod Small
+pub mod Removing
+pub mod Placing
+pub mod Narrowing
+pub mod Words
+pub mod Revising
+pub mod Rounding
+pub mod Labelling
+pub mod Starting

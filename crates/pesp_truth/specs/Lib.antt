@@ -13,3 +13,9 @@ pub mod Leaves
 pub mod Codes
 pub mod Conflicts
 pub mod Used
+pub mod Sets
+pub mod Windows
+pub mod Words
+pub mod Visits
+pub mod Rounds
+pub mod Supports

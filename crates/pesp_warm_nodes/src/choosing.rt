@@ -2,7 +2,7 @@
 //! (pseudo-costs: Bénichou et al. 1971).
 
 use crate::shared::Shared;
-use pesp_offset_cuts::{Candidate, PseudoCosts, worth_trying};
+use pesp_offset_tree::{Candidate, PseudoCosts, worth_trying};
 use pesp_sharp_nodes::{BoundSense, Limit, Setting, UNIT};
 use std::alloc::AllocError;
 

@@ -2,7 +2,8 @@
 
 use crate::basis::LineName;
 use crate::shared::Shared;
-use pesp_dual_simplex::{ONE, SolveStatus, rounded};
+use pesp_basis::{ONE, rounded};
+use pesp_dual_simplex::SolveStatus;
 use pesp_sharp_nodes::{Limit, NodeSharpener, Pool, Setting, UNIT};
 use std::alloc::AllocError;
 

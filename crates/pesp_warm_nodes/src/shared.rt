@@ -1,7 +1,8 @@
 //! The linear program that all nodes share.
 
 use crate::basis::{LineName, NodeBasis};
-use pesp_dual_simplex::{BasisNames, MOST, Simplex, State, whole};
+use pesp_basis::{MOST, State, whole};
+use pesp_dual_simplex::{BasisNames, Simplex};
 use pesp_inequalities::Seen;
 use pesp_sharp_nodes::{
     BoundSense, Cycle, NodeProgram, NodeSharpener, OffsetBound, Origin, Pool, Range, Setting,

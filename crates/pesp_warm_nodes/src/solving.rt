@@ -1,7 +1,8 @@
 //! Solves, within a limit.
 
 use crate::shared::Shared;
-use pesp_dual_simplex::{ONE, SolveStatus, parts, rounded, whole};
+use pesp_basis::{ONE, parts, rounded, whole};
+use pesp_dual_simplex::SolveStatus;
 use pesp_sharp_nodes::{Limit, Setting};
 use std::alloc::AllocError;
 

@@ -2,7 +2,7 @@
 
 use crate::basis::LineName;
 use crate::shared::Shared;
-use pesp_dual_simplex::rounded;
+use pesp_basis::rounded;
 use pesp_sharp_nodes::{BoundSense, Limit, OffsetBound, Setting, cost_shown};
 use std::alloc::AllocError;
 

@@ -1,4 +1,4 @@
-use Rattle.pesp_check_run.specs.Devices.{over}
+use Rattle.pesp_check.specs.Devices.{over}
 use Rattle.pesp_checker.proofs.program.check.Goals as goal
 
 pub returns-clause-verdict : goal.returns-clause-verdict

@@ -1,5 +1,5 @@
 use Rattle.std.proofs.Common.{inl}
-use Rattle.pesp_check_run.proofs.ReadingLemmas.{told_as}
+use Rattle.pesp_check.proofs.ReadingLemmas.{told_as}
 use Rattle.pesp_cli.proofs.Ends.{names_stopped}
 use Rattle.pesp_cli.proofs.answers.names_in.Goals as goal
 

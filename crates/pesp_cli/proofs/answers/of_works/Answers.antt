@@ -11,8 +11,8 @@ returns-in-Graft-clause-silent g c =
 
 pub returns-in-GraftSharp-clause-stopped : goal.returns-in-GraftSharp-clause-stopped
 returns-in-GraftSharp-clause-stopped g c =
-    rw c.in-GraftSharp.is (stopped c.run_graft_sharp.result _ _ c.run_graft_sharp.ensures.cause c.done-in-GraftSharp.ensures)
+    rw c.in-GraftSharp.is (stopped c.run_on_works.result _ _ c.run_on_works.ensures.cause c.done-in-GraftSharp.ensures)
 
 pub returns-in-GraftSharp-clause-silent : goal.returns-in-GraftSharp-clause-silent
 returns-in-GraftSharp-clause-silent g c =
-    stopped c.run_graft_sharp.result _ _ c.run_graft_sharp.ensures.silent c.done-in-GraftSharp.ensures
+    stopped c.run_on_works.result _ _ c.run_on_works.ensures.silent c.done-in-GraftSharp.ensures

@@ -1,6 +1,6 @@
 use Rattle.std.proofs.Common.{inl, inr}
-use Rattle.pesp_check_run.specs.Devices.{over}
-use Rattle.pesp_check_run.proofs.ReadingLemmas.{told_as}
+use Rattle.pesp_check.specs.Devices.{over}
+use Rattle.pesp_check.proofs.ReadingLemmas.{told_as}
 use Rattle.pesp_cli.proofs.Ends.{from_some_times, stopped, stopped_from, reader_left}
 use Rattle.pesp_cli.proofs.answers.search.Goals as goal
 

@@ -1,5 +1,5 @@
-use Rattle.pesp_check_run.specs.Devices.{over}
-use Rattle.pesp_check_run.proofs.ReadingLemmas.{told_as}
+use Rattle.pesp_check.specs.Devices.{over}
+use Rattle.pesp_check.proofs.ReadingLemmas.{told_as}
 use Rattle.pesp_cli.proofs.Keeping.{kept, kept_on, stopped_kept_on, refused_kept}
 use Rattle.pesp_cli.proofs.plans.kept_in.Goals as goal
 
@@ -8,7 +8,7 @@ returns-in_err-shelf-clause-stopped g c =
     told_as _ _ _ c.from_residual.ensures.1 (refused_kept _ _ _ _ _ c.in_err-shelf.ensures.refused)
 
 pub returns-in-Ok-None-clause-answered : goal.returns-in-Ok-None-clause-answered
-returns-in-Ok-None-clause-answered g c = kept c.begun-answer.result _ _ _ _ _ c.begun-answer.ensures.answered
+returns-in-Ok-None-clause-answered g c = kept c.search-answer.result _ _ _ _ _ c.search-answer.ensures.answered
 
 pub returns-in-Ok-Some-clause-answered : goal.returns-in-Ok-Some-clause-answered
 returns-in-Ok-Some-clause-answered g c =

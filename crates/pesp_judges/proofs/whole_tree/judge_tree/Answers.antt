@@ -17,7 +17,7 @@ loop-place-preserved c =
       problem = c.in_ok-found.ensures.problem;
       cycles = c.in_ok-found.ensures.cycles;
       zeros = c.in_ok-found.ensures.zeros;
-      room = rw (c.take_line.auto.taken, c.take_line.auto.rates) c.loop-place.invariant.room;
+      room = rw c.take_line.auto.rates c.loop-place.invariant.room;
       whole = whole_more c.args.lines.now c.loop-place.place c.index-lines-place.result c.loop-place-test.true
           c.index-lines-place.is c.loop-place.walk.nodes c.take_line.new.walk.nodes nodes
           c.loop-place.invariant.whole;

@@ -13,7 +13,7 @@ invariant-loop-place l = record {
   problem : l.walk.problem ≡ l.checker.instance.now;
   cycles : l.walk.cycles ≡ length l.checker.table.now;
   zeros : AreZeros l.flows;
-  room : HasRoom l.checker.claim (length l.checker.instance.now.rows) (length l.taken) (length l.rates);
+  room : HasRoom l.checker.claim (length l.checker.instance.now.rows) (length l.rates);
   whole : are_trees (length l.walk.nodes) (map line_of (drop l.place l.lines)) ≡ true;
   judged : (walks : List (List SignedRow)) (claim : Claim) → AreNets (length l.checker.instance.now.rows) walks l.checker.table.now
       → TellsOf l.checker.claim claim → AreJudged claim (net_of l.checker.instance.now) walks l.lines

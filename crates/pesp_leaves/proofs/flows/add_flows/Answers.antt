@@ -3,8 +3,10 @@ use Rattle.std.specs.Prelude.{◌+ℤ◌, ◌*ℤ◌, List}
 use Rattle.std.specs.Int.{w64}
 use Rattle.std.proofs.lemmas.Int.{ints, to_z-of_z}
 use Rattle.pesp_problem.specs.declared.nets.NetCount.{NetCount}
-use Rattle.pesp_leaves.specs.Flows.{count_of, number_at}
-use Rattle.pesp_leaves.proofs.Flowing.{pairs_apart, made_more, nets_read}
+use Rattle.pesp_problem.specs.Nets.{count_of}
+use Rattle.pesp_problem.specs.Terms.{number_at}
+use Rattle.pesp_problem.proofs.Flowing.{nets_read}
+use Rattle.pesp_leaves.proofs.Flowing.{pairs_apart, made_more}
 use Rattle.pesp_leaves.proofs.flows.add_flows.Goals as goal
 
 pub loop-pair-preserved : goal.loop-pair-preserved

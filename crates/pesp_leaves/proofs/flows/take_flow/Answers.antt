@@ -4,7 +4,7 @@ use Rattle.std.specs.Int.{w128}
 use Rattle.std.proofs.lemmas.Int.{ints, to_z-of_z}
 use Rattle.pesp_problem.specs.Arcs.{arcs_of}
 use Rattle.pesp_problem.specs.declared.nets.NetCount.{NetCount}
-use Rattle.pesp_leaves.specs.Flows.{number_at}
+use Rattle.pesp_problem.specs.Terms.{number_at}
 use Rattle.pesp_leaves.proofs.Taking.{part_small, taken_more}
 use Rattle.pesp_leaves.proofs.flows.take_flow.Goals as goal
 

@@ -4,7 +4,8 @@ use Rattle.std.specs.Int.{w128}
 use Rattle.std.proofs.lemmas.Int.{ints}
 use Rattle.pesp_problem.specs.Arcs.{arcs_of}
 use Rattle.pesp_problem.specs.declared.nets.NetCount.{NetCount}
-use Rattle.pesp_leaves.proofs.Flowing.{pairs_apart, nets_read}
+use Rattle.pesp_problem.proofs.Flowing.{nets_read}
+use Rattle.pesp_leaves.proofs.Flowing.{pairs_apart}
 use Rattle.pesp_leaves.proofs.Taking.{flow_sum_small, part_small, left_more, left_all}
 use Rattle.pesp_leaves.proofs.flows.take_flows.Goals as goal
 

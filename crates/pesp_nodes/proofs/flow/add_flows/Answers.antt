@@ -4,9 +4,11 @@ use Rattle.std.specs.Int.{w64}
 use Rattle.std.proofs.lemmas.Int.{ints, to_z-of_z}
 use Rattle.pesp_problem.specs.declared.pair.Pair.{Pair}
 use Rattle.pesp_problem.specs.declared.nets.NetCount.{NetCount}
-use Rattle.pesp_nodes.specs.Flows.{count_of, number_at}
+use Rattle.pesp_problem.specs.Nets.{count_of}
+use Rattle.pesp_problem.specs.Terms.{number_at}
+use Rattle.pesp_problem.proofs.Flowing.{nets_read}
 use Rattle.pesp_nodes.proofs.LeafValues.{few_pairs, few_all}
-use Rattle.pesp_nodes.proofs.Flowing.{made_none, made_more, made_all, nets_read}
+use Rattle.pesp_nodes.proofs.Flowing.{made_none, made_more, made_all}
 use Rattle.pesp_nodes.proofs.flow.add_flows.Goals as goal
 
 none : Pair

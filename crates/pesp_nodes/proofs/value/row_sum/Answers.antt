@@ -5,9 +5,9 @@ use Rattle.std.proofs.lemmas.Int.{ints, to_z-of_z}
 use Rattle.std.proofs.lemmas.List.{get_or_default}
 use Rattle.pesp_problem.specs.Sums.{sum_below}
 use Rattle.pesp_problem.specs.Nodes.{flow}
+use Rattle.pesp_problem.proofs.Integers.{sum_below-more}
 use Rattle.pesp_nodes.specs.Passages.{ArePassagesOf, passages_at}
 use Rattle.pesp_nodes.specs.Values.{row_term_at}
-use Rattle.pesp_nodes.proofs.LeafValues.{rows_more}
 use Rattle.pesp_nodes.proofs.value.row_sum.Goals as goal
 
 pub loop-place-preserved : goal.loop-place-preserved
@@ -31,7 +31,7 @@ loop-place-preserved c =
           let here : c.row_term.result ≡ row_term_at c.args.arcs.now c.args.slacks.now c.args.weighted k
           (flow walks c.args.pairs.now k) = c.row_term.ensures.value
           ∙ ap (row_term_at c.args.arcs.now c.args.slacks.now c.args.weighted k) flow_is in
-          rows_more (λ i. row_term_at c.args.arcs.now c.args.slacks.now c.args.weighted i
+          sum_below-more (λ i. row_term_at c.args.arcs.now c.args.slacks.now c.args.weighted i
           (flow walks c.args.pairs.now i)) k (to_z w128 c.loop-place.sum-bits) c.row_term.result _
           (c.loop-place.invariant.0 walks are names flows) here sum),
       rw sum (omega (arith, ints)),

@@ -1,4 +1,4 @@
-use Rattle.pesp_check_run.proofs.ReadingLemmas.{told_as}
+use Rattle.pesp_check.proofs.ReadingLemmas.{told_as}
 use Rattle.pesp_runs.proofs.Telling.{times_cause}
 use Rattle.pesp_report_run.proofs.claimed.read_claimed.Goals as goal
 

@@ -1,4 +1,4 @@
-use Rattle.pesp_check_run.proofs.ReadingLemmas.{told_as}
+use Rattle.pesp_check.proofs.ReadingLemmas.{told_as}
 use Rattle.pesp_report_run.proofs.Causes.{names_cause}
 use Rattle.pesp_report_run.proofs.names.read_whole_names.Goals as goal
 

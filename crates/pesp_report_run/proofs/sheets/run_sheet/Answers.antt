@@ -1,5 +1,5 @@
 use Rattle.std.proofs.Common.{inr}
-use Rattle.pesp_check_run.proofs.ReadingLemmas.{told_as}
+use Rattle.pesp_check.proofs.ReadingLemmas.{told_as}
 use Rattle.pesp_report_run.proofs.Causes.{timetable_cause}
 use Rattle.pesp_report_run.proofs.sheets.run_sheet.Goals as goal
 
@@ -19,4 +19,4 @@ returns-in_err-write-clause-cause g c =
 pub returns-clause-ok : goal.returns-clause-ok
 returns-clause-ok g c =
     let out = rw c.deref.ensures.value at c.in_ok-write.ensures in
-    (c.in_ok-instance.instance, c.in_ok-instance.ensures.ok, (c.in_ok-claimed.claimed.times.items, c.in_ok-claimed.ensures.ok, out.timetable, out.text))
+    (c.in_ok-instance.instance, c.in_ok-instance.ensures.ok, (c.in_ok-claimed.claimed.times.items, (c.in_ok-claimed.ensures.ok, out.timetable), out.text))

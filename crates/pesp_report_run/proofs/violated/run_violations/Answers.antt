@@ -1,5 +1,5 @@
 use Rattle.std.proofs.Common.{inr}
-use Rattle.pesp_check_run.proofs.ReadingLemmas.{told_as}
+use Rattle.pesp_check.proofs.ReadingLemmas.{told_as}
 use Rattle.pesp_report_run.proofs.Causes.{violations_cause, violations_told}
 use Rattle.pesp_report_run.proofs.violated.run_violations.Goals as goal
 
@@ -24,8 +24,7 @@ returns-clause-ok g c =
       c.in_ok-instance.ensures.ok,
       (
         c.in_ok-times.times.items,
-        c.in_ok-times.ensures.ok,
-        c.in_ok-times.ensures.times,
+        (c.in_ok-times.ensures.ok, c.in_ok-times.ensures.times),
         violations_told c.in_ok-instance.instance _ _ _ _ _ _ c.deref.ensures.value out.count out.text,
       ),
     )

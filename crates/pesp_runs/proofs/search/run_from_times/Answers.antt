@@ -9,7 +9,7 @@ returns-clause-ok g c =
     on_ok_weaker c.write.result (λ w. (
       c.in_ok-instance.instance,
       c.in_ok-instance.ensures.ok,
-      (times.times.items, times.ensures.ok, times.ensures.timetable, w),
+      (times.times.items, times.ensures.ok, w),
     )) written
 
 pub returns-clause-cause : goal.returns-clause-cause
@@ -20,5 +20,5 @@ returns-clause-cause g c =
     inr (
       c.in_ok-instance.instance,
       c.in_ok-instance.ensures.ok,
-      inr (times.times.items, times.ensures.ok, times.ensures.timetable, out),
+      inr (times.times.items, times.ensures.ok, out),
     )) cause

@@ -1,4 +1,4 @@
-use Rattle.pesp_check_run.proofs.ReadingLemmas.{told_as}
+use Rattle.pesp_check.proofs.ReadingLemmas.{told_as}
 use Rattle.pesp_runs.proofs.Telling.{times_cause}
 use Rattle.pesp_runs.proofs.texts.read_whole_times.Goals as goal
 

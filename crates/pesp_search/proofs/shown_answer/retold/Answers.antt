@@ -1,6 +1,6 @@
 use Rattle.std.proofs.Common.{◌≡◌, ◌∙◌}
 use Rattle.pesp_cert.specs.Fronted.{Fronted}
-use Rattle.pesp_check.specs.Costs.{shown_of}
+use Rattle.pesp_whole_check.specs.Costs.{shown_of}
 use Rattle.pesp_search.proofs.Retelling.{again_costs, again}
 use Rattle.pesp_search.proofs.shown_answer.retold.Goals as goal
 

@@ -1,4 +1,4 @@
-use Rattle.pesp_check_run.proofs.ReadingLemmas.{told_as}
+use Rattle.pesp_check.proofs.ReadingLemmas.{told_as}
 use Rattle.pesp_tasks.proofs.Resumptions.{writes}
 use Rattle.pesp_tasks.proofs.resume.write_plainly.Goals as goal
 

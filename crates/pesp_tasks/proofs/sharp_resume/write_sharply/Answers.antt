@@ -1,4 +1,4 @@
-use Rattle.pesp_check_run.proofs.ReadingLemmas.{told_as}
+use Rattle.pesp_check.proofs.ReadingLemmas.{told_as}
 use Rattle.pesp_tasks.proofs.SharpSolutions.{written}
 use Rattle.pesp_tasks.proofs.sharp_resume.write_sharply.Goals as goal
 

@@ -9,8 +9,8 @@ use Rattle.pesp_judges.specs.Pending.{Standing}
 use Rattle.pesp_judges.specs.Faults.{IsMarkFault}
 use Rattle.pesp_leaves.specs.Ranges.{node_of}
 use Rattle.pesp_check.specs.Views.{kept}
-use Rattle.pesp_check.proofs.Fronts.{of_none}
-use Rattle.pesp_check.proofs.Inner.{if_for, lent_if, lent_and, walks_exist}
+use Rattle.pesp_whole_check.proofs.Refusing.{of_none}
+use Rattle.pesp_whole_check.proofs.Inner.{if_for, lent_if, lent_and, walks_exist}
 use Rattle.pesp_check.proofs.Lines.{cycles_end, marks_refused}
 use Rattle.pesp_check.proofs.judge.Judge.begin_tree.Goals as goal
 

@@ -3,7 +3,8 @@ use Rattle.pesp_check.specs.declared.stage.Stage.{Stage}
 use Rattle.pesp_check.specs.declared.stage.Stage.TheVariants as stages
 use Rattle.pesp_check.specs.Judging.{JudgedAt}
 use Rattle.pesp_check.specs.Views.{kept}
-use Rattle.pesp_check.proofs.Fronts.{front_ends, front_refused, of_none}
+use Rattle.pesp_whole_check.proofs.Refusing.{of_none}
+use Rattle.pesp_check.proofs.Fronts.{front_ends, front_refused}
 use Rattle.pesp_check.proofs.Lists.{no_lemma}
 use Rattle.pesp_check.proofs.judge.Judge.end_front.Goals as goal
 

@@ -10,12 +10,12 @@ use Rattle.pesp_truth.specs.Trees.{Line}
 use Rattle.pesp_truth.specs.Certificates.{least_of}
 use Rattle.pesp_leaves.specs.Taken.{HaveRows}
 use Rattle.pesp_judges.specs.Lines.{IsLineVerdict}
-use Rattle.pesp_check.specs.Rooms.{AreOwnWeights, FitsWalks, claim_from}
+use Rattle.pesp_whole_check.specs.Rooms.{AreOwnWeights, FitsWalks, claim_from}
 use Rattle.pesp_check.specs.Said.{pairs_of, tree_line}
 use Rattle.pesp_check.specs.Views.{kept}
-use Rattle.pesp_check.proofs.Claims.{walks_fit}
-use Rattle.pesp_check.proofs.Fronts.{of_none}
-use Rattle.pesp_check.proofs.Inner.{lent_for}
+use Rattle.pesp_whole_check.proofs.Claims.{walks_fit}
+use Rattle.pesp_whole_check.proofs.Refusing.{of_none}
+use Rattle.pesp_whole_check.proofs.Inner.{lent_for}
 use Rattle.pesp_check.proofs.Lists.{said_is}
 use Rattle.pesp_check.proofs.Lines.{nets_are, answer_is, never_done, never_gone, line_told, whole_text, few_cycles, few_least}
 use Rattle.pesp_check.proofs.judge.Judge.judge_line.Goals as goal
@@ -53,11 +53,10 @@ pub take_line-requires-clause-room : goal.take_line-requires-clause-room
 take_line-requires-clause-room c =
     let j = c.args.self.now in
     let some = ap is_some c.in-Some.is in
-    let taken = ap length c.deref_mut.ensures.value in
-    let rates = ap length c.deref_mut-2.ensures.value in
+    let rates = ap length c.deref_mut.ensures.value in
     rw (c.new-checker.ensures.claim, c.new-checker.ensures.instance)
-    (c.claim_over-claim.ensures.room _ _ _ (lent_for (λ m. m.now) _ c.as_ref-marks.result j.front c.as_ref-marks.ensures.value
-    (λ m is. (taken ∙ (j.roomy some m is).taken, rates ∙ (j.roomy some m is).rates))))
+    (c.claim_over-claim.ensures.room _ _ (lent_for (λ m. m.now) _ c.as_ref-marks.result j.front c.as_ref-marks.ensures.value
+    (λ m is. rates ∙ (j.roomy some m is).rates)))
 
 pub returns-in-Some-found-clause-judged : goal.returns-in-Some-found-clause-judged
 returns-in-Some-found-clause-judged c front c' rest has before =

@@ -3,7 +3,7 @@ use Rattle.std.specs.Prelude.{option_map}
 use Rattle.pesp_cert_items.specs.Lent.{item_said}
 use Rattle.pesp_judges.specs.Showing.{kept_of_lemma as kept_lemma}
 use Rattle.pesp_check.specs.Views.{kept}
-use Rattle.pesp_check.proofs.Fronts.{of_none}
+use Rattle.pesp_whole_check.proofs.Refusing.{of_none}
 use Rattle.pesp_check.proofs.LemmaSteps.{shown_behind}
 use Rattle.pesp_check.proofs.judge.Judge.show.Goals as goal
 
@@ -15,8 +15,9 @@ returns-in-Some-found-clause-judged c front c' rest has before =
     rw c.in-Some-found.is at
     (shown_behind j.stage j.instance.now front c' (item_said c.args.line) rest (kept j) (kept_lemma c.in-Some.lemma) has
     (ap (option_map kept_lemma) c.in-Some.is) before new (j.line + 1) c.in_ok-found.found
-    (record (kept j) { line = j.line + 1; lemma = Some new }) (record (kept j) { line = j.line + 1; lemma = None })
-    c.requires.goes_on refl told refl refl)
+    (record (kept j) { line = j.line + 1; lemma = Some new })
+    (record (kept j) { line = j.line + 1; lemma = option_map kept_lemma c.take.new.self })
+    c.requires.goes_on refl told refl (ap (option_map kept_lemma) c.take.ensures.after))
 
 pub returns-clause-judged : goal.returns-clause-judged
 returns-clause-judged c front c' rest has before =

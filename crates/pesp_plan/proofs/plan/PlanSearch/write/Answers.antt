@@ -1,5 +1,5 @@
 use Rattle.std.proofs.Common.{inr}
-use Rattle.pesp_check_run.proofs.ReadingLemmas.{told_as}
+use Rattle.pesp_check.proofs.ReadingLemmas.{told_as}
 use Rattle.pesp_plan.proofs.Standing.{writes_plan}
 use Rattle.pesp_plan.proofs.plan.PlanSearch.write.Goals as goal
 

@@ -1,5 +1,5 @@
 use Rattle.std.proofs.Common.{inl, inr}
-use Rattle.pesp_check_run.proofs.ReadingLemmas.{told_as}
+use Rattle.pesp_check.proofs.ReadingLemmas.{told_as}
 use Rattle.pesp_runs.proofs.Telling.{search_cause, limit_cause}
 use Rattle.pesp_tasks.proofs.SharpSolutions.{solution}
 use Rattle.pesp_tasks.proofs.sharp_solve.SolveSharpSearch.write.Goals as goal

@@ -1,4 +1,4 @@
-use Rattle.pesp_check_run.proofs.ReadingLemmas.{told_as}
+use Rattle.pesp_check.proofs.ReadingLemmas.{told_as}
 use Rattle.pesp_tasks.proofs.sharp_split.SplitSharpOnBase.write.Goals as goal
 
 pub returns-in_err-print_to-clause-cause : goal.returns-in_err-print_to-clause-cause

@@ -1,5 +1,5 @@
 use Rattle.std.proofs.Common.{inr}
-use Rattle.pesp_check_run.proofs.ReadingLemmas.{told_as}
+use Rattle.pesp_check.proofs.ReadingLemmas.{told_as}
 use Rattle.pesp_tasks.proofs.SharpSolutions.{written}
 use Rattle.pesp_tasks.proofs.sharp_work.WorkSharpOnBase.write.Goals as goal
 

@@ -1,5 +1,5 @@
 use Rattle.std.proofs.Common.{inl, inr}
-use Rattle.pesp_check_run.proofs.ReadingLemmas.{told_as}
+use Rattle.pesp_check.proofs.ReadingLemmas.{told_as}
 use Rattle.pesp_runs.proofs.Telling.{search_cause, limit_cause}
 use Rattle.pesp_tasks.proofs.Solutions.{solution}
 use Rattle.pesp_tasks.proofs.solve.SolveSearch.write.Goals as goal

@@ -1,3 +1,0 @@
-pub mod ReadingLemmas
-pub mod Causes
-mod Texts

@@ -1,5 +1,0 @@
-pub mod Devices
-pub mod Verdicts
-pub mod Checking
-pub mod FaultLines
-pub mod Lines

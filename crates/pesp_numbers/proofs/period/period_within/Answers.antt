@@ -1,5 +1,0 @@
-use Rattle.std.proofs.Common.{rules}
-use Rattle.pesp_numbers.proofs.period.period_within.Goals as goal
-
-pub returns-clause-least : goal.returns-clause-least
-returns-clause-least c = search rules

@@ -1,5 +1,0 @@
-use Rattle.pesp_tree.specs.Certificates.{IsProblemOf}
-use Rattle.pesp_part_tests.proofs.changes.spend.Given as goal
-
-abbrev pub invariant-loop-number : goal.invariant-loop-number
-invariant-loop-number l = IsProblemOf l.instance l.board.problem

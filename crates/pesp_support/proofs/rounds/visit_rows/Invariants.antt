@@ -1,7 +1,0 @@
-use Rattle.std.proofs.Common.{length}
-use Rattle.pesp_support.specs.Rounds.{net_at}
-use Rattle.pesp_support.proofs.Rounding.{Going}
-use Rattle.pesp_support.proofs.rounds.visit_rows.Given as goal
-
-abbrev pub invariant-loop-place : goal.invariant-loop-place
-invariant-loop-place l = Going (net_at l.period l.arcs) l.ranges (length l.before) l.before l.now l.place l.initial.words l.words l.changed

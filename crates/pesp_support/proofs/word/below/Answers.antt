@@ -1,5 +1,0 @@
-use Rattle.pesp_support.proofs.Words.{is_below}
-use Rattle.pesp_support.proofs.word.below.Goals as goal
-
-pub returns : goal.returns
-returns c = is_below c.args.period c.args.word c.requires.0 c.requires.1

@@ -1,7 +1,7 @@
 //! Balls: a connected part of the events is freed, and the rest moves as one cluster.
 
+use crate::batch_work::FEW;
 use crate::search::TimetableSearch;
-use crate::work::FEW;
 use pesp_annealing::Annealer;
 use pesp_network::Network;
 use pesp_problem::Memory;

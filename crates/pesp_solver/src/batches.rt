@@ -1,8 +1,8 @@
 //! Batches: individuals are merged by fours, and these with the best of before.
 
+use crate::batch_work::{BatchWork, FEW, MAY_END_EARLY, is_close, is_near, may_join};
 use crate::pieces::Piece;
 use crate::search::TimetableSearch;
-use crate::work::{BatchWork, FEW, MAY_END_EARLY, is_close, is_near, may_join};
 use pesp_network::Network;
 use pesp_problem::Memory;
 use pesp_soft_times::SoftEffort;

@@ -1,7 +1,7 @@
 //! New timetables: dives of several kinds, and anneals behind them.
 
+use crate::batch_work::{FEW, GREEDY, MOST_DIVED};
 use crate::search::{Prepared, TimetableSearch};
-use crate::work::{FEW, GREEDY, MOST_DIVED};
 use pesp_annealing::Annealer;
 use pesp_network::Network;
 use pesp_problem::Memory;

@@ -6,6 +6,7 @@
 #![tactic(auto)]
 
 mod balls;
+mod batch_work;
 mod batches;
 mod individuals;
 mod looking;
@@ -16,7 +17,6 @@ mod runs;
 mod search;
 mod solution;
 mod times_search;
-mod work;
 
 pub use open_work::work;
 pub use pesp_search::{SolveRefusal, Solved};

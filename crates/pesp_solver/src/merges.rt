@@ -1,7 +1,7 @@
 //! Merges: what timetables have in common is contracted, and the rest is searched anew.
 
+use crate::batch_work::{MOST_DIVED, is_near};
 use crate::search::TimetableSearch;
-use crate::work::{MOST_DIVED, is_near};
 use pesp_annealing::Annealer;
 use pesp_network::Network;
 use pesp_problem::Memory;

@@ -1,7 +1,7 @@
 //! Batches piece by piece, so that others can look on in between.
 
+use crate::batch_work::{A_BALL, A_MERGE, A_PAIR, A_ROUND, A_VISIT, BatchWork};
 use crate::search::TimetableSearch;
-use crate::work::{A_BALL, A_MERGE, A_PAIR, A_ROUND, A_VISIT, BatchWork};
 use pesp_network::Network;
 use pesp_problem::Memory;
 use pesp_soft_times::{MOST_REOPTIMISED, SoftEffort, Start};

@@ -1,7 +1,7 @@
 //! The search for timetables of one network, and the best that it found.
 
+use crate::batch_work::{BatchWork, FEW, may_win};
 use crate::pieces::Pieces;
-use crate::work::{BatchWork, FEW, may_win};
 use pesp_forest::{Effort, Frame, Random};
 use pesp_network::Network;
 use pesp_problem::Memory;

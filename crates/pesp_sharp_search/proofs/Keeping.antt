@@ -5,7 +5,7 @@ use Rattle.std.proofs.lemmas.List.{drop_all, drop_more, length-append, length-ma
 use Rattle.pesp_problem.specs.Timetables.{Pesp}
 use Rattle.pesp_truth.specs.Certificates.{cost_of, IsValid}
 use Rattle.pesp_cert.specs.Fronted.{Fronted}
-use Rattle.pesp_worker.specs.declared.jobs.OpenJob.{OpenJob}
+use Rattle.pesp_turns.specs.declared.open_job.OpenJob.{OpenJob}
 use Rattle.pesp_sharp_search.specs.Solving.{IsSharpResumed}
 use Rattle.pesp_sharp_search.proofs.Choices.{base_stands}
 use Rattle.pesp_sharp_search.specs.Jobs.{SharpJob, told_job, jobs_of}

@@ -8,7 +8,7 @@ use Rattle.pesp_truth.specs.Trees.{Line, EndLine, CutLine}
 use Rattle.pesp_truth.specs.Certificates.{lines_of, cost_of}
 use Rattle.pesp_cert.specs.Fronted.{Fronted}
 use Rattle.pesp_whole_check.specs.Costs.{shown_of}
-use Rattle.pesp_worker.specs.declared.jobs.OpenJob.{OpenJob}
+use Rattle.pesp_turns.specs.declared.open_job.OpenJob.{OpenJob}
 
 -- the cuts that lead to a line, each with the side that is taken
 abbrev pub Path : Type 0

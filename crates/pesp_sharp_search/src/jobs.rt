@@ -11,8 +11,8 @@ use pesp_board::Job;
 use pesp_cert::Fronted;
 use pesp_problem::{Cut, Instance, Memory, Side};
 use pesp_truth::TreeLine;
+use pesp_turns::OpenJob;
 use pesp_whole_check::costs_shown;
-use pesp_worker::OpenJob;
 use std::alloc::Global;
 
 /// Whether a leaf that shows so much is open, where the times cost so much; none stands above every cost.

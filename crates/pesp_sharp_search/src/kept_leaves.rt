@@ -10,7 +10,7 @@ use crate::jobs::{is_below, sharp_jobs};
 use pesp_cert::Fronted;
 use pesp_problem::{Cut, Instance, Memory, Side};
 use pesp_truth::Answer;
-use pesp_worker::OpenJob;
+use pesp_turns::OpenJob;
 use std::alloc::Global;
 
 /// Whether an answer leaves something to be found.

@@ -29,7 +29,6 @@ pub use pesp_search::{
     Leaves, Nobody, Observer, SearchPhase, SharpWatcher, Sharpener, SolveRefusal, Standing,
     Unwatched,
 };
-pub use pesp_worker::{JobsText, OpenJob};
 pub use ranks::is_no_worse;
 pub use resumption::{resume_leaves, resume_sharp};
 pub use sharp_graft::{SharpGraft, SharpReply, graft_sharp};

@@ -11,10 +11,8 @@ ghost use Rattle.pesp_propagate.specs.Lists.{AreListed};
 ghost use Rattle.pesp_propagate.specs.Local.{IsLocal};
 ghost use Rattle.pesp_simplex.specs.Improvements.{IsImproved};
 
-use crate::descent::{Descent, numbers_for};
 use crate::improved::{Improved, Stop};
-use crate::low::{Low, count_rows};
-use crate::stars::empty_lists;
+use pesp_descent::{Descent, Low, count_rows, empty_lists, numbers_for};
 use pesp_problem::net_times::{cost_of, is_timetable};
 use pesp_problem::{Arc, Memory};
 use pesp_propagate::{

@@ -10,11 +10,12 @@ use Rattle.pesp_cert.specs.declared.refusal.CertRefusal.TheVariants.{Memory as C
 use Rattle.pesp_cert_items.specs.Works.{WorkValue, spellings}
 use Rattle.pesp_cert_items.specs.Refusals.{works_of_text}
 use Rattle.pesp_cert_items.specs.Refusals as works_texts
-use Rattle.pesp_worker.specs.declared.jobs.OpenJob.{OpenJob}
+use Rattle.pesp_turns.specs.declared.open_job.OpenJob.{OpenJob}
 use Rattle.pesp_worker.specs.declared.grafted.Reply.{Reply}
 use Rattle.pesp_worker.specs.Jobs.{AreOpenJobs}
 use Rattle.pesp_worker.specs.Grafts.{IsGrafted}
-use Rattle.pesp_worker.specs.Texts.{jobs_text, reply_line}
+use Rattle.pesp_turns.specs.JobsTexts.{jobs_text}
+use Rattle.pesp_worker.specs.Texts.{reply_line}
 use Rattle.pesp_worker.specs.HandingIn.{AreWorksOn, AreWorkRefusal}
 use Rattle.pesp_worker.specs.declared.refusal.WorkRefusal.{WorkRefusal}
 use Rattle.pesp_worker.specs.declared.refusal.WorkRefusal.TheVariants.{Memory as WorkMemory, NoSuchJob}

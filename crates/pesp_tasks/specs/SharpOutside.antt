@@ -2,8 +2,8 @@
 use Rattle.std.specs.Prelude.{ℕ, List, Option}
 use Rattle.pesp_problem.specs.Timetables.{Pesp}
 use Rattle.pesp_cert.specs.Fronted.{Fronted}
-use Rattle.pesp_worker.specs.declared.jobs.OpenJob.{OpenJob}
-use Rattle.pesp_worker.specs.Texts.{jobs_text}
+use Rattle.pesp_turns.specs.declared.open_job.OpenJob.{OpenJob}
+use Rattle.pesp_turns.specs.JobsTexts.{jobs_text}
 use Rattle.pesp_sharp_search.specs.Jobs.{AreSharpJobs, AreJobsOf}
 use Rattle.pesp_sharp_search.specs.Keeping.{IsSharpWorked}
 use Rattle.pesp_sharp_search.specs.Grafts.{IsSharpGrafted}

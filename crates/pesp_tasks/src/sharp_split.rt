@@ -3,8 +3,9 @@
 use pesp_cert::Fronted;
 use pesp_problem::Instance;
 use pesp_runs::{Fault, OnBase};
-use pesp_sharp_search::{JobsText, sharp_jobs};
+use pesp_sharp_search::sharp_jobs;
 use pesp_stream::{Sink, print_to};
+use pesp_turns::JobsText;
 use std::alloc::Global;
 
 /// The open leaves of a certificate, with a front or without, as jobs, numbered from 0 in the order of the tree's lines, each with its

@@ -11,7 +11,8 @@ use pesp_cert::Certificate;
 use pesp_problem::Instance;
 use pesp_runs::{Fault, OnBase, run_on_base};
 use pesp_stream::{Sink, Source, print_to};
-use pesp_worker::{JobsText, open_jobs};
+use pesp_turns::JobsText;
+use pesp_worker::open_jobs;
 use std::alloc::Global;
 
 /// The open leaves of a certificate as jobs, numbered from 0 in the order of the tree's lines, each with its value and the path to it.

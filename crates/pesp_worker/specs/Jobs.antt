@@ -8,7 +8,7 @@ use Rattle.pesp_truth.specs.Certificates.{Content}
 use Rattle.pesp_nodes.specs.Problems.{ProblemValue}
 use Rattle.pesp_tree.specs.declared.job.Job.{Job}
 use Rattle.pesp_tree.specs.States.{State, IsJobLeaf}
-use Rattle.pesp_worker.specs.declared.jobs.OpenJob.{OpenJob}
+use Rattle.pesp_turns.specs.declared.open_job.OpenJob.{OpenJob}
 use Rattle.pesp_worker.specs.Lent.{IsLentFrom}
 
 -- a job by its number and the path to its leaf

@@ -10,16 +10,9 @@ use crate::lent::lend_base;
 use pesp_board::{Board, Job};
 use pesp_cert::Certificate;
 use pesp_problem::{Instance, Memory};
+use pesp_turns::OpenJob;
 use std::alloc::Global;
 use std::mem;
-
-/// An open leaf as a job: its number, the path to it from the root, and its value, one above 999999999999999999 told as that
-/// number.
-#[derive(Drop)]
-pub struct OpenJob {
-    pub job: Job,
-    pub value: u64,
-}
 
 /// The job with the value of its leaf.
 fn valued(board: &Board, job: Job) -> OpenJob

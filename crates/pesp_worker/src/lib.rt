@@ -21,8 +21,8 @@ mod shared_search;
 mod splits;
 
 pub use grafted::{Grafted, Reply, graft};
-pub use jobs::{OpenJob, open_jobs};
+pub use jobs::open_jobs;
 pub use lent::{Lent, lend_base};
 pub use open_work::work_on_all;
-pub use printer::{JobsText, RepliesText};
+pub use printer::RepliesText;
 pub use refusal::WorkRefusal;

@@ -3,7 +3,7 @@ use Rattle.std.specs.Prelude.{IfOk, map}
 use Rattle.std.specs.Global.{Vec}
 use Rattle.pesp_tree.specs.declared.job.Job.{Job}
 use Rattle.pesp_tree.specs.Adopting.{LendsEach}
-use Rattle.pesp_worker.specs.declared.jobs.OpenJob.{OpenJob}
+use Rattle.pesp_turns.specs.declared.open_job.OpenJob.{OpenJob}
 use Rattle.pesp_worker.proofs.Opening.{all_open}
 use Rattle.pesp_worker.proofs.jobs.open_jobs.Goals as goal
 

@@ -6,9 +6,9 @@ use pesp_propagate::{Cuts, Entry, Rooted, put};
 
 /// Which cuts are listed: those below which no event hangs more rows down than `most`.
 #[derive(Clone, Copy)]
-pub(crate) struct Low<'a> {
-    pub(crate) heights: &'a [u32],
-    pub(crate) most: u32,
+pub struct Low<'a> {
+    pub heights: &'a [u32],
+    pub most: u32,
 }
 
 impl Low<'_> {
@@ -60,7 +60,7 @@ fn count_row(
 
 /// Counts all rows at the listed cuts that they cross, and gives how many there are in all; None where that isn't below
 /// the room.
-pub(crate) fn count_rows(
+pub fn count_rows(
     rooted: &Rooted,
     low: &Low,
     counts: &mut [u32],

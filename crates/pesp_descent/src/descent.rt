@@ -23,7 +23,7 @@ enum ShiftedSet {
 
 /// Slacks and their cost, the best that were met, the forest in use with its cuts, and the rows at each event.
 #[derive(Drop)]
-pub(crate) struct Descent {
+pub struct Descent {
     period: u32,
     rounds: u32,
     slacks: Vec<u32>,
@@ -63,7 +63,7 @@ fn copy(from: &[u32], to: &mut [u32]) {
 }
 
 /// Room for the costs of all shifts of a cut.
-pub(crate) fn numbers_for(alloc: Global, period: u32) -> Result<Numbers, Memory> {
+pub fn numbers_for(alloc: Global, period: u32) -> Result<Numbers, Memory> {
     Ok(Numbers {
         costs: vec![in alloc; 0i64; period as usize + 1]?,
         bars: vec![in alloc; 0i64; period as usize + 1]?,
@@ -84,7 +84,7 @@ fn heat_at(top: u64, halves: u32, round: u32, rounds: u32) -> u64 {
 
 impl Descent {
     /// A descent from these slacks, which cost so much, in so many rounds.
-    pub(crate) fn new(
+    pub fn new(
         alloc: Global,
         period: u32,
         events: u32,
@@ -109,12 +109,12 @@ impl Descent {
     }
 
     /// The forest in use.
-    pub(crate) fn rooted(&self) -> &Rooted {
+    pub fn rooted(&self) -> &Rooted {
         &self.planting.drawing.rooted
     }
 
     /// The times of the slacks, along the forest in use.
-    pub(crate) fn times(&self, alloc: Global, arcs: &[Arc]) -> Result<Option<Vec<u32>>, Memory> {
+    pub fn times(&self, alloc: Global, arcs: &[Arc]) -> Result<Option<Vec<u32>>, Memory> {
         self.planting
             .drawing
             .times_of(alloc, self.period, arcs, &self.slacks)
@@ -232,7 +232,7 @@ impl Descent {
 
     /// Makes the slacks cheaper in its rounds: first by cheaper shifts alone, then by heat, and then by cheaper shifts
     /// again. It may give up before.
-    pub(crate) fn run(&mut self, arcs: &[Arc]) -> Result<(), Memory> {
+    pub fn run(&mut self, arcs: &[Arc]) -> Result<(), Memory> {
         let rounds = self.rounds;
         let reserve = (rounds / 4).clamp(16, 400);
         let first = rounds.min(16);

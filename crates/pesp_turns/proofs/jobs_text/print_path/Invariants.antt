@@ -1,8 +1,8 @@
 use Rattle.std.proofs.Common.{take}
 use Rattle.std.specs.List.{flat_map}
 use Rattle.pesp_stream.specs.Printing.{Sends}
-use Rattle.pesp_worker.specs.Texts.{step_words}
-use Rattle.pesp_worker.proofs.printer.print_path.Given as goal
+use Rattle.pesp_turns.specs.JobsTexts.{step_words}
+use Rattle.pesp_turns.proofs.jobs_text.print_path.Given as goal
 
 abbrev pub invariant-loop-step : goal.invariant-loop-step
 invariant-loop-step g l = Sends (g.O.Output.sending l.initial.out) (g.O.Output.sending l.out)

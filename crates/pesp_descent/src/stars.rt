@@ -17,7 +17,7 @@ fn count_rows(counts: &mut [u32], arcs: &[Arc]) -> Option<()> {
 }
 
 /// So many empty lists, with room for so many entries in all.
-pub(crate) fn empty_lists(alloc: Global, lists: usize, room: usize) -> Result<Cuts, Memory> {
+pub fn empty_lists(alloc: Global, lists: usize, room: usize) -> Result<Cuts, Memory> {
     let none = Entry {
         row: 0,
         inward: false,

@@ -2,7 +2,6 @@
 //! others 2020). Nothing is promised of them but that they are found safely: others judge them.
 #![tactic(auto)]
 
-mod best;
 mod bounding;
 mod proposal;
 mod proposing;

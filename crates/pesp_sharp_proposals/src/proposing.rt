@@ -2,7 +2,6 @@
 
 ghost use Rattle.std.specs.Prelude.{◌≡◌};
 
-use crate::best::is_open;
 use crate::proposal::proposals_of;
 use crate::search::{Chosen, NextTask, SharpSearch};
 use pesp_cert::Fronted;
@@ -10,6 +9,7 @@ use pesp_forest::TimesFinder;
 use pesp_problem::{Instance, Memory, Share};
 use pesp_reduce::{Reduced, reduce};
 use pesp_search::{Leaves, Pace, Proposals, SharpWatcher};
+use pesp_sharp_certificates::is_open;
 use pesp_sharp_trees::{Left, scale_for, scale_over};
 use pesp_truth::Answer;
 use std::alloc::Global;

@@ -2,7 +2,6 @@
 
 ghost use Rattle.std.specs.Prelude.{◌≡◌};
 
-use crate::best::{Best, offer, shown_by};
 use crate::bounding::{Bounding, may_have_regions};
 use pesp_cert::{Certificate, Fronted};
 use pesp_forest::{Effort, TimesFinder};
@@ -10,6 +9,7 @@ use pesp_offset_tree::{SharpLine, Sharpened};
 use pesp_problem::{Memory, Score, Share, score};
 use pesp_regions::{NextTurn, Turns};
 use pesp_search::{Pace, SharpWatcher, Standing};
+use pesp_sharp_certificates::{Best, offer, shown_by};
 use pesp_sharp_trees::{Left, given_of};
 use pesp_sharpening::{Sharpening, Step};
 use pesp_simplex::{Improved, SimplexRefusal, improve};

@@ -8,9 +8,9 @@ use std::alloc::Global;
 
 /// The times of a timetable of the instance, one for each event, and their cost.
 #[derive(Drop)]
-pub(crate) struct Best {
-    pub(crate) times: Vec<u32>,
-    pub(crate) cost: u64,
+pub struct Best {
+    pub times: Vec<u32>,
+    pub cost: u64,
 }
 
 /// The timetable of an instance that has these times; None where they are none.
@@ -22,7 +22,7 @@ fn timetable_of(instance: &Instance, times: Vec<u32>) -> Option<Best> {
 }
 
 /// The timetable that a certificate shows, where it shows one.
-pub(crate) fn shown_by(
+pub fn shown_by(
     alloc: Global,
     instance: &Instance,
     certificate: &Certificate,
@@ -35,7 +35,7 @@ pub(crate) fn shown_by(
 }
 
 /// Whether an answer leaves something to be found.
-pub(crate) fn is_open(answer: Answer) -> bool {
+pub fn is_open(answer: Answer) -> bool {
     matches!(answer, Answer::Bounded { .. })
 }
 
@@ -48,7 +48,7 @@ fn is_cheaper(cost: u64, best: &Option<Best>) -> bool {
 }
 
 /// Takes times of what is left of the instance, where they are a timetable that is cheaper than the best one so far.
-pub(crate) fn offer(left: Left<'_>, times: &[u32], best: &mut Option<Best>) -> Result<(), Memory> {
+pub fn offer(left: Left<'_>, times: &[u32], best: &mut Option<Best>) -> Result<(), Memory> {
     let network = left.reduced.network();
     if !network.is_timetable(times) || !is_cheaper(network.cost_of(times), best) {
         return Ok(());

@@ -1,12 +1,7 @@
-//! The checker alone, as a program: an instance from a file and a certificate from standard input, the verdict on standard
-//! output. It stands on nothing of the solver.
+//! The checker alone, as a program.
 #![tactic(auto)]
 
-mod program;
-mod request;
-mod telling;
-
-use program::exit_of_program;
+use pesp_checker_cli::exit_of_program;
 use std::process::ExitCode;
 
 fn main(rt: HostRuntime) -> ExitCode {

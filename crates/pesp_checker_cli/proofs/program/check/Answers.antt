@@ -1,5 +1,5 @@
 use Rattle.pesp_check.specs.Devices.{over}
-use Rattle.pesp_checker.proofs.program.check.Goals as goal
+use Rattle.pesp_checker_cli.proofs.program.check.Goals as goal
 
 pub returns-clause-verdict : goal.returns-clause-verdict
 returns-clause-verdict g c = (

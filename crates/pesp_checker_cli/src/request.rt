@@ -1,7 +1,7 @@
 //! What the words of the command line ask for.
 
 ghost use Rattle.std.specs.Prelude.{◌≡◌, ◌≤◌, IfSome};
-ghost use Rattle.pesp_checker.specs.Words.{versions_asked};
+ghost use Rattle.pesp_checker_cli.specs.Words.{versions_asked};
 
 use pesp_cert::Versions;
 use pesp_problem::MOST_PERIOD;

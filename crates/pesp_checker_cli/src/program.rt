@@ -3,8 +3,8 @@
 ghost use Rattle.std.specs.Prelude.{◌≡◌, ◌≢◌, ◌<◌, ◌^◌, IfOk, IfErr};
 ghost use Rattle.pesp_stream.specs.Counts.{FewerThan};
 ghost use Rattle.pesp_check.specs.Devices.{over};
-ghost use Rattle.pesp_checker.specs.Words.{versions_asked};
-ghost use Rattle.pesp_checker.specs.Statuses.{AnswersChecker, AnswersRequest, GivesVerdict, NoVerdictCause};
+ghost use Rattle.pesp_checker_cli.specs.Words.{versions_asked};
+ghost use Rattle.pesp_checker_cli.specs.Statuses.{AnswersChecker, AnswersRequest, GivesVerdict, NoVerdictCause};
 
 use crate::request::{CheckRequest, USAGE, request_of};
 use crate::telling::told;
@@ -17,9 +17,7 @@ use std::{env, io};
 
 /// Does what the command line asks for, and gives the exit status: 0 for a certificate that is accepted, 1 for one that is
 /// refused, 2 for a command line that isn't understood, 3 for a text that is refused, 4 for memory and devices.
-pub(crate) fn exit_of_program<R: AllocGlobal + Env + Input + Print + Eprint + Files>(
-    rt: &R,
-) -> ExitCode {
+pub fn exit_of_program<R: AllocGlobal + Env + Input + Print + Eprint + Files>(rt: &R) -> ExitCode {
     let words = match env::args(rt) {
         Ok(args) => args.collect::<Vec<String>>(rt.alloc()),
         Err(error) if error.kind() == io::ErrorKind::OutOfMemory => {
@@ -50,7 +48,7 @@ fn status_over_devices<R: AllocGlobal + Input + Print + Eprint + Files>(
 }
 
 /// Does what the words ask for, the program's name first, and gives the exit status: 2 where they ask for nothing.
-fn status_of_words<R: AllocGlobal + Files, S: Source, W: Sink, E: Sink>(
+pub fn status_of_words<R: AllocGlobal + Files, S: Source, W: Sink, E: Sink>(
     rt: &R,
     reader: &mut S,
     writer: &mut W,

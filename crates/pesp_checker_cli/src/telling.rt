@@ -3,7 +3,7 @@
 ghost use Rattle.std.specs.Prelude.{◌<◌, ◌^◌};
 ghost use Rattle.pesp_stream.specs.Counts.{FewerThan};
 ghost use Rattle.pesp_check.specs.Devices.{over};
-ghost use Rattle.pesp_checker.specs.Statuses.{TellsFault};
+ghost use Rattle.pesp_checker_cli.specs.Statuses.{TellsFault};
 
 use pesp_check::{VerdictFault, status_of, tell};
 use pesp_stream::{Bytes, Sink};

@@ -2,19 +2,10 @@
 //! A case gives files and numbers, and asks one question a line. Each is printed with its answer.
 #![tactic(auto)]
 
-mod boards;
 mod commands;
-mod devices;
-mod events;
-mod file;
-mod items;
 mod parts;
 mod played;
 mod programs;
-mod reader;
-mod runtime;
-mod streams;
-mod writer;
 
 use pesp_part_tests::{Case, cases_of};
 use played::play;

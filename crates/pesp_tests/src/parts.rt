@@ -1,7 +1,7 @@
 //! Parts of what command lines have written, and fronts of what they read.
 
-use crate::devices::Device;
 use crate::programs::{View, end_of, run_all, tell_end};
+use pesp_case_runtime::Device;
 use pesp_part_tests::{Case, split_word};
 use std::alloc::Global;
 

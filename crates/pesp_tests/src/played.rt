@@ -1,11 +1,11 @@
 //! A case from its first line to its last.
 
-use crate::boards::play_board;
 use crate::commands::ask_command;
-use crate::items::ask_items;
 use crate::parts::{ask_closed, ask_count, ask_fronts, ask_parts};
 use crate::programs::{View, ask_in_pieces, ask_program};
-use crate::streams::{ask_bytes, ask_lines, ask_number, ask_pages, ask_words};
+use pesp_case_runtime::{
+    ask_bytes, ask_items, ask_lines, ask_number, ask_pages, ask_words, play_board,
+};
 use pesp_part_tests::{Case, ask_part, begin_line, look_up, split_word};
 
 /// What a line asks for.

@@ -1,8 +1,7 @@
 //! Command lines of the program, and how they end.
 
 use crate::commands::words_with_name;
-use crate::devices::{Device, device_of};
-use crate::runtime::{CaseRuntime, CommandEnd};
+use pesp_case_runtime::{CaseRuntime, CommandEnd, Device, device_of};
 use pesp_cli::status_of_words;
 use pesp_part_tests::{Case, add_joined, split_word};
 use pesp_sharp_proposals::TreeSharpener;

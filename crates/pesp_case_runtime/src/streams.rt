@@ -8,7 +8,7 @@ use pesp_stream::{Bytes, Lines, Words, count_words, is_word, natural, print_to, 
 use std::alloc::Global;
 
 /// Tells the natural and the whole number that a word spells.
-pub(crate) fn ask_number(case: Case<'_>, told: &mut String) -> Option<()> {
+pub fn ask_number(case: Case<'_>, told: &mut String) -> Option<()> {
     let word = bytes_of(case.alloc, case.rest)?;
     tell_number(natural(&word), told)?;
     told.push_str(",").ok()?;
@@ -28,7 +28,7 @@ fn named_time(line: &[u8]) -> u32 {
 
 /// Tells how many words a line has that single spaces part.
 /// Tells how many of them are `time`.
-pub(crate) fn ask_words(case: Case<'_>, told: &mut String) -> Option<()> {
+pub fn ask_words(case: Case<'_>, told: &mut String) -> Option<()> {
     let line = bytes_of(case.alloc, case.rest)?;
     match count_words(&line) {
         Some(count) => write!(told, " {count}, {} of them time", named_time(&line)).ok(),
@@ -37,7 +37,7 @@ pub(crate) fn ask_words(case: Case<'_>, told: &mut String) -> Option<()> {
 }
 
 /// Tells how many lines the input has, and how many bytes are in them.
-pub(crate) fn ask_lines(case: Case<'_>, told: &mut String) -> Option<()> {
+pub fn ask_lines(case: Case<'_>, told: &mut String) -> Option<()> {
     let text = case.text("input")?;
     let mut count = 0usize;
     let mut bytes = 0usize;
@@ -49,7 +49,7 @@ pub(crate) fn ask_lines(case: Case<'_>, told: &mut String) -> Option<()> {
 }
 
 /// Tells the bytes that are read of the input up to a limit.
-pub(crate) fn ask_bytes(case: Case<'_>, told: &mut String) -> Option<()> {
+pub fn ask_bytes(case: Case<'_>, told: &mut String) -> Option<()> {
     let limit = case.rest.parse().ok()?;
     let device = device_of(case, "input")?;
     let text = case.text("input")?;
@@ -89,7 +89,7 @@ fn printed(alloc: Global, pieces: &[Bytes<'_>], device: Device) -> (bool, Memory
 /// Prints the lines of the input, each as a piece without its end.
 /// Tells whether all went out, and how many bytes by how many calls.
 /// Tells too whether these bytes begin what was to go out.
-pub(crate) fn ask_pages(case: Case<'_>, told: &mut String) -> Option<()> {
+pub fn ask_pages(case: Case<'_>, told: &mut String) -> Option<()> {
     let alloc = case.alloc;
     let device = device_of(case, "output")?;
     let text = case.text("input")?;

@@ -20,7 +20,7 @@ use std::time::Duration;
 
 /// A case, standard input, and what went to standard output and to standard error.
 #[derive(Drop)]
-pub(crate) struct CaseRuntime<'a> {
+pub struct CaseRuntime<'a> {
     case: Case<'a>,
     input: &'a [u8],
     device: Device,
@@ -34,10 +34,10 @@ pub(crate) struct CaseRuntime<'a> {
 
 /// How a command line ends: its exit status, and what went out.
 #[derive(Drop)]
-pub(crate) struct CommandEnd {
-    pub(crate) status: u8,
-    pub(crate) written: Vec<u8>,
-    pub(crate) told: Vec<u8>,
+pub struct CommandEnd {
+    pub status: u8,
+    pub written: Vec<u8>,
+    pub told: Vec<u8>,
 }
 
 /// Writes some bytes, no more than there are.
@@ -75,7 +75,7 @@ fn keep_text<D: Display + Drop>(
 
 impl<'a> CaseRuntime<'a> {
     /// The runtime of a case where nothing went out yet.
-    pub(crate) fn new(case: Case<'a>, input: &'a [u8], device: Device) -> Option<CaseRuntime<'a>> {
+    pub fn new(case: Case<'a>, input: &'a [u8], device: Device) -> Option<CaseRuntime<'a>> {
         let output = device_of(case, "output")?;
         let seconds = match case.line("clock") {
             Some(rest) => Some(rest.parse().ok()?),
@@ -93,7 +93,7 @@ impl<'a> CaseRuntime<'a> {
     }
 
     /// The end with this status, and with what went out.
-    pub(crate) fn end(self, status: u8) -> CommandEnd {
+    pub fn end(self, status: u8) -> CommandEnd {
         let CaseRuntime { written, told, .. } = self;
         CommandEnd {
             status,

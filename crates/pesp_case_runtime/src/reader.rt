@@ -9,7 +9,7 @@ use std::io::{BufRead, Read};
 
 /// Gives its bytes as the device does.
 #[derive(Drop)]
-pub(crate) struct MemoryReader<'a> {
+pub struct MemoryReader<'a> {
     rest: &'a [u8],
     device: Device,
 }

@@ -75,7 +75,7 @@ fn board_of(case: Case<'_>, instance: &Instance) -> Option<Board>
 }
 
 /// Tells the name of a case, and each event and question with its answer.
-pub(crate) fn play_board(case: Case<'_>, told: &mut String) -> Option<()> {
+pub fn play_board(case: Case<'_>, told: &mut String) -> Option<()> {
     let instance = instance_of(case)?;
     let done = play_instance(case, &instance, told);
     drop(instance);

@@ -8,7 +8,7 @@ use std::io::{Error, ErrorKind, Read, Seek, SeekFrom, Write};
 
 /// Gives its bytes from a place on, as the device does; all else is refused.
 #[derive(Drop)]
-pub(crate) struct MemoryFile {
+pub struct MemoryFile {
     text: Vec<u8>,
     at: usize,
     device: Device,

@@ -8,7 +8,7 @@ use std::io::{Error, ErrorKind};
 /// It is interrupted so many times first.
 /// After so many calls it fails, or moves no byte.
 #[derive(Clone, Copy)]
-pub(crate) struct Device {
+pub struct Device {
     piece: usize,
     interrupted: u32,
     pub(crate) calls: u32,
@@ -17,7 +17,7 @@ pub(crate) struct Device {
 
 impl Device {
     /// A device that never fails.
-    pub(crate) fn whole() -> Device {
+    pub fn whole() -> Device {
         Device {
             piece: usize::MAX,
             interrupted: 0,
@@ -27,7 +27,7 @@ impl Device {
     }
 
     /// The same device, which moves at most `piece` bytes at a call.
-    pub(crate) fn in_pieces(self, piece: usize) -> Device {
+    pub fn in_pieces(self, piece: usize) -> Device {
         Device { piece, ..self }
     }
 
@@ -69,7 +69,7 @@ fn read_device(words: &[&str]) -> Option<Device> {
 
 /// The device of the line `device NAME PIECE INTERRUPTED CALLS END`.
 /// One that never fails, where there is no such line.
-pub(crate) fn device_of(case: Case<'_>, name: &str) -> Option<Device> {
+pub fn device_of(case: Case<'_>, name: &str) -> Option<Device> {
     for words in &case.all("device")? {
         if *words.get(0)? == name {
             return read_device(words.get(1..)?);

@@ -35,7 +35,7 @@ fn tell_twice<S: Source>(items: &mut Items<S>, told: &mut String) -> Option<()> 
 }
 
 /// Tells how many items the input has, and what comes behind them; and again.
-pub(crate) fn ask_items(case: Case<'_>, told: &mut String) -> Option<()> {
+pub fn ask_items(case: Case<'_>, told: &mut String) -> Option<()> {
     let text = case.text("input")?;
     let mut items = Items::new(case.alloc, Counted::new(text.as_slice()));
     let done = tell_twice(&mut items, told);

@@ -10,7 +10,7 @@ use std::io::Write;
 
 /// Takes bytes as the device does.
 #[derive(Drop)]
-pub(crate) struct MemoryWriter {
+pub struct MemoryWriter {
     pub(crate) taken: Vec<u8>,
     pub(crate) device: Device,
 }

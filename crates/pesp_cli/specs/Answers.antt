@@ -3,7 +3,7 @@ use Rattle.std.specs.Prelude.{◌≡◌, ◌⊎◌, ℕ, ℤ, List, zero, suc, O
 use Rattle.pesp_problem.specs.Timetables.{Pesp}
 use Rattle.pesp_report.specs.Report.{IsReport}
 use Rattle.pesp_report.specs.Named.{IsNamedReport}
-use Rattle.pesp_report_run.specs.declared.fix_refusal.FixRefusal.{FixRefusal}
+use Rattle.pesp_fixed.specs.declared.fix_refusal.FixRefusal.{FixRefusal}
 use Rattle.pesp_timetable.specs.Texts.{IsTimetableText}
 use Rattle.pesp_judges.specs.declared.refusal.Verdict.{Verdict}
 use Rattle.pesp_cert_lines.specs.declared.versions.Versions.TheVariants.{Plain, All}

@@ -18,12 +18,13 @@ use crate::input::{Beginning, warn_of_period};
 use crate::plans::of_plan;
 use crate::telling::{tell_sums, told_conflict, told_fix};
 use pesp_check::{VerdictFault, run_check, run_check_sharp, status_of_verdict};
+use pesp_fixed::Wanted;
 use pesp_judges::Verdict;
 use pesp_plan::{Lockable, Teller, Watch};
 use pesp_report::Names;
 use pesp_report_run::{
-    Diagrams, HtmlPage, NamedReport, Picture, Report, Timetable, Wanted, read_whole_names,
-    run_conflict, run_fix, run_sheet, run_violations, status_of_told,
+    Diagrams, HtmlPage, NamedReport, Picture, Report, Timetable, read_whole_names, run_conflict,
+    run_fix, run_sheet, run_violations, status_of_told,
 };
 use pesp_request::{OfCertificate, OfInstance, OfLeaves, OfTimes, OfWorks};
 use pesp_runs::{

@@ -8,7 +8,8 @@ ghost use Rattle.pesp_check.specs.Lines.{GetsLine};
 ghost use Rattle.pesp_cli.specs.Answers.{TellsFault, fix_status};
 
 use pesp_check::tell;
-use pesp_report_run::{FixRefusal, Told};
+use pesp_fixed::FixRefusal;
+use pesp_report_run::Told;
 use pesp_runs::{Fault, status_of};
 use pesp_stream::{Bytes, Sink};
 use std::alloc::Global;

@@ -1,12 +1,10 @@
 //! Why an instance has no timetable: activities that together have none, as few as can be (the deletion filter, Chinneck
 //! 2008).
 //!
-//! Listed activities as records of csv, in memory, with the names of their events where these are told; and the sum of a closed walk
-//! of them in words.
+//! Listed activities as records of csv, in memory, with the names of their events where these are told.
 #![tactic(auto)]
 
 mod attempts;
-mod closed;
 mod decided_rows;
 mod decision;
 mod deletion_filter;
@@ -18,10 +16,8 @@ mod part;
 mod records;
 mod search;
 mod settings;
-mod sums;
 mod used;
 
 pub use finding::{Conflict, Finding};
 pub use records::text_of_listed;
 pub use search::conflict;
-pub use sums::add_sums;

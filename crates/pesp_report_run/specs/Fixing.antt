@@ -2,7 +2,7 @@
 use Rattle.std.specs.Prelude.{ℕ, List, [], Option, Some, None}
 use Rattle.pesp_problem.specs.Timetables.{Pesp}
 use Rattle.pesp_report_run.specs.Fixed.{IsText}
-use Rattle.pesp_report_run.specs.declared.fix_refusal.FixRefusal.{FixRefusal}
+use Rattle.pesp_fixed.specs.declared.fix_refusal.FixRefusal.{FixRefusal}
 use Rattle.pesp_check.specs.Devices.{Device}
 use Rattle.pesp_runs.specs.Reading.{ReadsTimes}
 use Rattle.pesp_runs.specs.Causes.{TimesCause, OutCause}

@@ -7,11 +7,11 @@ ghost use Rattle.pesp_check.specs.Devices.{over};
 ghost use Rattle.pesp_runs.specs.Reading.{ReadsTimes};
 ghost use Rattle.pesp_runs.specs.Causes.{TimesCause};
 
+use pesp_diagram::{Claim, claim_in};
 use pesp_problem::Instance;
 use pesp_report::read_times;
 use pesp_runs::{Fault, MOST_TEXT};
 use pesp_stream::{Source, read_all};
-use pesp_timetable::{Claim, claim_in};
 use std::alloc::Global;
 
 /// One time for each event, and what the text that tells them claims.

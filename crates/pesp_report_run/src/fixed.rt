@@ -3,12 +3,8 @@
 ghost use Rattle.std.specs.Prelude.{IfOk, string_bytes};
 ghost use Rattle.pesp_report_run.specs.Fixed.{IsText};
 
-use crate::clock::clock_of;
-use crate::fix_refusal::FixRefusal;
-use crate::fixed_events::{Wanted, held_events};
-use crate::fixed_lines::add_lines;
-use crate::instance_text::text_with;
 use crate::judge::is_text;
+use pesp_fixed::{FixRefusal, Wanted, text_that_holds};
 use pesp_problem::Instance;
 use pesp_report::Names;
 use std::alloc::Global;
@@ -28,9 +24,7 @@ pub fn fixed_text(
 ) -> Result<String, FixRefusal>
     ensures { IfOk result (λ text. IsText instance.now (string_bytes text)) }
 {
-    let mut held = held_events(alloc, instance, times, wanted.events)?;
-    add_lines(&mut held, instance, times, names, wanted.lines)?;
-    let text = text_with(alloc, instance, clock_of(instance, &held), &held)?;
+    let text = text_that_holds(alloc, instance, times, names, wanted)?;
     match is_text(alloc, instance, text.as_bytes()) {
         Ok(true) => Ok(text),
         Ok(false) => Err(FixRefusal::TooLarge),

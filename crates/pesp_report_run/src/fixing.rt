@@ -10,9 +10,8 @@ ghost use Rattle.pesp_report_run.specs.Reporting.{WritesSheet};
 ghost use Rattle.pesp_report_run.specs.Violating.{ReadsForEvents};
 ghost use Rattle.pesp_report_run.specs.Fixing.{FixCause, WritesFixed};
 
-use crate::fix_refusal::FixRefusal;
 use crate::fixed::fixed_text;
-use crate::fixed_events::Wanted;
+use pesp_fixed::{FixRefusal, Wanted};
 use pesp_problem::Instance;
 use pesp_report::Names;
 use pesp_runs::{Fault, read_whole_instance, read_whole_times};

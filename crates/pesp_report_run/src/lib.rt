@@ -7,13 +7,8 @@
 #![tactic(auto)]
 
 mod claimed;
-mod clock;
-mod fix_refusal;
 mod fixed;
-mod fixed_events;
-mod fixed_lines;
 mod fixing;
-mod instance_text;
 mod judge;
 mod names;
 mod run;
@@ -22,9 +17,7 @@ mod sheets;
 mod told;
 mod violated;
 
-pub use fix_refusal::FixRefusal;
 pub use fixed::fixed_text;
-pub use fixed_events::Wanted;
 pub use fixing::run_fix;
 pub use names::read_whole_names;
 pub use run::run_conflict;

@@ -11,9 +11,10 @@ ghost use Rattle.pesp_runs.specs.Causes.{OutCause};
 ghost use Rattle.pesp_report_run.specs.Runs.{ConflictCause, TellsConflict, WritesList};
 
 use crate::told::{Told, told_of};
-use pesp_conflict::{Finding, add_sums, conflict, text_of_listed};
+use pesp_conflict::{Finding, conflict, text_of_listed};
 use pesp_forest::TimesFinder;
 use pesp_problem::Instance;
+use pesp_railway::add_sums;
 use pesp_report::Names;
 use pesp_runs::{Fault, read_whole_instance};
 use pesp_stream::{Bytes, Sink, Source, print_to};

@@ -7,12 +7,12 @@ ghost use Rattle.pesp_stream.specs.Writing.{AppendsFront};
 ghost use Rattle.pesp_problem.specs.Timetables.{Pesp, IsTimetable};
 ghost use Rattle.pesp_report.specs.Reporting.{IfBlamed, Refuses, UnlessBlamed};
 
-use pesp_diagram::diagram;
+use pesp_diagram::{Claim, diagram};
 use pesp_draw::{ActivityFilter, draw};
 use pesp_problem::Instance;
 use pesp_report::{Names, ReportRefusal, report, report_named};
 use pesp_stream::Sink;
-use pesp_timetable::{Claim, page, timetable};
+use pesp_timetable::{page, timetable};
 use std::alloc::Global;
 
 /// What is written of a timetable: a report, its records, a picture or a page.

@@ -7,13 +7,12 @@ ghost use Rattle.pesp_stream.specs.Writing.{AppendsFront};
 ghost use Rattle.pesp_problem.specs.Timetables.{IsTimetable, AreTimes};
 ghost use Rattle.pesp_report.specs.Reporting.{IfBlamed, Refuses, UnlessBlamed};
 
-use crate::claim::Claim;
 use crate::entry::entries_in_order;
-use crate::found::write_found;
-use crate::page_frame::{write_end, write_front};
-use crate::slack::{count_tight, write_slack};
 use crate::trains::write_trains;
-use pesp_diagram::write_pictures;
+use pesp_diagram::{
+    Claim, count_tight, write_diagrams_section, write_found, write_page_end, write_page_front,
+    write_slack,
+};
 use pesp_draw::Labels;
 use pesp_problem::Instance;
 use pesp_railway::told_of_events;
@@ -73,12 +72,12 @@ fn text_of(
 {
     let lines = lines_by_cost(alloc, instance, times)?;
     let mut text = String::new(alloc);
-    write_front(&mut text, instance.period(), cost)?;
+    write_page_front(&mut text, instance.period(), cost)?;
     write_found(&mut text, instance, claim, cost, count_tight(&lines))?;
     write_all_trains(alloc, &mut text, instance, times, names)?;
-    write_diagrams(alloc, &mut text, instance, times, names)?;
+    write_diagrams_section(alloc, &mut text, instance, times, names)?;
     write_slack(&mut text, Labels::of(names), &lines)?;
-    write_end(&mut text)?;
+    write_page_end(&mut text)?;
     Ok(text)
 }
 
@@ -95,27 +94,4 @@ fn write_all_trains(
     let tolds = told_of_events(alloc, instance, times, names)?;
     let entries = entries_in_order(alloc, instance, times, &tolds)?;
     write_trains(text, Labels::of(names), &tolds, &entries)
-}
-
-/// Writes the diagrams, where names tell lines.
-fn write_diagrams(
-    alloc: Global,
-    text: &mut String,
-    instance: &Instance,
-    times: &[u32],
-    names: Option<&Names>,
-) -> Result<(), AllocError> {
-    text.push_str("<section id=\"diagrams\"><h2>Diagrams</h2>\n")?;
-    match names {
-        Some(names) => {
-            text.push_str(
-                "<p>Each line's stations stand below each other, and the time goes across one period. A train out goes down, in blue, and one back goes up, in brown and dashed; the table of trains has the same times in words.</p>\n",
-            )?;
-            write_pictures(alloc, text, instance, times, names)?;
-            text.push_str("</section>\n")
-        }
-        None => text.push_str(
-            "<p>There are none without names of lines and stations (<code>--names</code>).</p></section>\n",
-        ),
-    }
 }

@@ -64,7 +64,8 @@ fn write_part(text: &mut String, labels: Labels<'_>, lines: &[Line]) -> Result<(
     text.push_str("</tbody>\n")
 }
 
-/// Writes the table of all activities, the dearest ones first, with what sorts and searches it.
+/// Writes the table of all activities with what sorts and searches it. The lines come with the dearest one first. The error is a
+/// growth that was refused.
 pub fn write_slack(
     text: &mut String,
     labels: Labels<'_>,
@@ -87,7 +88,7 @@ pub fn write_slack(
     text.push_str("</table></div></section>\n")
 }
 
-/// How many activities have no slack.
+/// How many of these activities have no slack.
 pub fn count_tight(lines: &[Line]) -> u32 {
     let mut count: u32 = 0;
     for line in lines {

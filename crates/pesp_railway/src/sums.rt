@@ -122,7 +122,8 @@ fn add_wanted(words: &mut String, period: u32, sum: DurationBounds) -> Result<()
 
 /// Adds the sum in words where the listed rows make up one closed walk and names are told: the events along it, in the direction in
 /// which its greatest sum isn't below 0, the least and the greatest sum of the durations, and the multiples of the period next to
-/// it, of which neither lies between.
+/// it, of which neither lies between. Nothing is added else. `rows` are numbers of rows, from 1 on. The error is a growth that was
+/// refused; words may have been added before.
 pub fn add_sums(
     alloc: Global,
     instance: &Instance,

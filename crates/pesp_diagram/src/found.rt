@@ -60,7 +60,8 @@ fn write_size(text: &mut String, instance: &Instance, tight: u32) -> Result<(), 
     )
 }
 
-/// Writes what was found: the cost, what is claimed of it, and how large the instance is.
+/// Writes what was found: the cost of a timetable, what is claimed of it, and how large the instance is. `tight` is how many
+/// activities have no slack. The error is a growth that was refused.
 pub fn write_found(
     text: &mut String,
     instance: &Instance,

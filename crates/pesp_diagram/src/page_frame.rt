@@ -55,8 +55,8 @@ const button=head.firstChild;button.addEventListener('click',sort);\n\
 button.addEventListener('keydown',event=>{if(event.key=='Enter'||event.key==' '){event.preventDefault();sort()}})});\n\
 </script>\n";
 
-/// Writes the page's beginning: its title, its style and the way to its parts.
-pub fn write_front(text: &mut String, period: u32, cost: u64) -> Result<(), AllocError> {
+/// Writes the page's beginning: its title, its style and the way to its parts. The error is a growth that was refused.
+pub fn write_page_front(text: &mut String, period: u32, cost: u64) -> Result<(), AllocError> {
     text.push_str("<!DOCTYPE html>\n<html lang=\"en\"><head><meta charset=\"utf-8\">\n")?;
     text.push_str("<meta name=\"viewport\" content=\"width=device-width,initial-scale=1\">\n")?;
     writeln!(
@@ -73,8 +73,8 @@ pub fn write_front(text: &mut String, period: u32, cost: u64) -> Result<(), Allo
     )
 }
 
-/// Writes the page's end, with its script.
-pub fn write_end(text: &mut String) -> Result<(), AllocError> {
+/// Writes the page's end, with its script. The error is a growth that was refused.
+pub fn write_page_end(text: &mut String) -> Result<(), AllocError> {
     text.push_str("</main>\n")?;
     text.push_str(SCRIPT)?;
     text.push_str("</body></html>\n")

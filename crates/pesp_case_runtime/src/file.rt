@@ -1,7 +1,7 @@
 //! A file in memory.
 
 use crate::devices::Device;
-use pesp_plan::Lockable;
+use pesp_files::Lockable;
 use std::fs::{Metadata, OpenFile};
 use std::io;
 use std::io::{Error, ErrorKind, Read, Seek, SeekFrom, Write};

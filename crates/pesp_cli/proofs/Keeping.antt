@@ -3,10 +3,9 @@ use Rattle.std.proofs.Common.{◌≡◌, ◌⊎◌, inl, inr, ℕ, List, refl, O
 use Rattle.std.specs.Prelude.{Result, Option, MatchResult, OnOk, IfOk, IfErr, ⊤}
 use Rattle.pesp_problem.specs.Timetables.{Pesp}
 use Rattle.pesp_truth.specs.declared.answer.Answer.{Answer}
-use Rattle.pesp_tasks.specs.Solving.{SolutionStops}
 use Rattle.pesp_check.specs.Devices.{Device}
 use Rattle.pesp_check.specs.Lines.{Gets}
-use Rattle.pesp_runs.specs.Causes.{OutCause}
+use Rattle.pesp_runs.specs.Causes.{OutCause, SolutionStops}
 use Rattle.pesp_runs.specs.declared.fault.Fault.{Fault}
 use Rattle.pesp_runs.specs.declared.fault.Fault.TheVariants.{NoFile, Memory}
 use Rattle.pesp_cert.specs.Fronted.{Fronted}

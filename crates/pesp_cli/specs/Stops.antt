@@ -13,14 +13,14 @@ use Rattle.pesp_check.specs.declared.fault.VerdictFault.{VerdictFault}
 use Rattle.pesp_plan.specs.Planning.{WritesPlan, KeepsSome}
 use Rattle.pesp_old_times.specs.Beginning.{ReadsOld, OldCause, FromStandingCause}
 use Rattle.pesp_runs.specs.Reading.{ReadsBase, GivesTimetable}
-use Rattle.pesp_runs.specs.Causes.{BaseCause, TimetableCause, OutCause}
+use Rattle.pesp_runs.specs.Causes.{BaseCause, TimetableCause, OutCause, SolutionStops}
 use Rattle.pesp_runs.specs.FaultLines.{verdict_fault}
 use Rattle.pesp_runs.specs.declared.fault.Fault.{Fault}
 use Rattle.pesp_runs.specs.declared.fault.Fault.TheVariants.{NoFile}
 use Rattle.pesp_runs.specs.Bases.{ReadsSharpBase, SharpBaseCause}
 use Rattle.pesp_runs.specs.Runs.{AloneCause, OverBaseCause, OverWorksCause}
 use Rattle.pesp_tasks.specs.Gaps.{gap_line, gap_json}
-use Rattle.pesp_tasks.specs.Solving.{WritesSolution, SolutionStops}
+use Rattle.pesp_tasks.specs.Solving.{WritesSolution}
 use Rattle.pesp_tasks.specs.Resuming.{WritesGoneOn}
 use Rattle.pesp_tasks.specs.Outside.{WritesJobs, WritesWorks, JobCause, GraftCause}
 use Rattle.pesp_tasks.specs.SharpSolving.{WritesSharpSolution, WritesSharpResumed}

@@ -13,14 +13,13 @@ ghost use Rattle.pesp_cli.specs.Answers.{AnswersConflict, AnswersSearch, Answers
 ghost use Rattle.pesp_report_run.specs.Fixing.{FixCause};
 ghost use Rattle.pesp_cli.specs.Stops.{OrNoNames, OrNamesOf, StopsConflict, StopsSearch, StopsInstance, StopsCertificate, StopsLeaves, StopsTimes, StopsReport, StopsViolations, StopsWorks};
 
-use crate::headed::Headed;
-use crate::input::{Beginning, warn_of_period};
 use crate::plans::of_plan;
 use crate::telling::{tell_sums, told_conflict, told_fix};
 use pesp_check::{VerdictFault, run_check, run_check_sharp, status_of_verdict};
+use pesp_files::{Beginning, Headed, Lockable, warn_of_period};
 use pesp_fixed::Wanted;
 use pesp_judges::Verdict;
-use pesp_plan::{Lockable, Teller, Watch};
+use pesp_planner::{Teller, Watch};
 use pesp_report::Names;
 use pesp_report_run::{
     Diagrams, HtmlPage, NamedReport, Picture, Report, Timetable, read_whole_names, run_conflict,

@@ -2,8 +2,6 @@
 #![tactic(auto)]
 
 mod answers;
-mod headed;
-mod input;
 mod output;
 mod plans;
 mod program;

@@ -7,11 +7,11 @@ ghost use Rattle.pesp_cli.specs.Answers.{AnswersPlan, AnswersKept};
 ghost use Rattle.pesp_cli.specs.Stops.{StopsPlan, StopsKept};
 
 use crate::answers::{done, search};
+use pesp_files::{Lockable, ShelfRefusal};
+use pesp_looks::Overseer;
 use pesp_old_times::{FromOldTimes, Listener};
-use pesp_plan::{
-    Again, FileShelf, Hearer, KeptPlan, Lockable, Overseer, Plan, Planner, ShelfRefusal,
-    run_on_standing,
-};
+use pesp_plan::{FileShelf, KeptPlan, Plan, run_on_standing};
+use pesp_planner::{Again, Hearer, Planner};
 use pesp_request::Planning;
 use pesp_runs::Fault;
 use pesp_sharp_search::Sharpener;

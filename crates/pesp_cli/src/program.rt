@@ -10,14 +10,12 @@ ghost use Rattle.pesp_cli.specs.Stops.{StopsProgram};
 use crate::answers::{
     of_certificate, of_instance, of_leaves, of_times, of_works, opened, opened_headed,
 };
-use crate::headed::Headed;
-use crate::input::{Beginning, warn_of_period};
 use crate::output::writer_of;
 use crate::telling::told;
 use clap::Error;
 use clap::error::ErrorKind;
 use pesp_check::teller_of;
-use pesp_plan::Lockable;
+use pesp_files::{Beginning, Headed, Lockable, warn_of_period};
 use pesp_request::{Asked, OfInstance, Request, request_of};
 use pesp_runs::{Fault, status_of};
 use pesp_sharp_search::Sharpener;

@@ -8,7 +8,7 @@ use Rattle.pesp_cert.specs.Fronted.{Fronted, IsFrontedText, fronted_text}
 use Rattle.pesp_search.specs.Solving.{CostsNoMore}
 use Rattle.pesp_sharp_search.specs.Solving.{IsNoWorse}
 use Rattle.pesp_runs.specs.Bases.{IsSharpBase}
-use Rattle.pesp_tasks.specs.SharpSolving.{WritesFronted}
+use Rattle.pesp_runs.specs.Fronts.{WritesFronted}
 
 -- what may be put where this stands: a certificate that is valid for the instance with its marked walks, whose answer is true;
 -- it has a text, and it is no worse than what stands

@@ -5,10 +5,10 @@ ghost use Rattle.pesp_sharp_search.specs.Solving.{IsNoWorse};
 ghost use Rattle.pesp_runs.specs.Bases.{IsSharpBase};
 ghost use Rattle.pesp_plan.specs.Planning.{IsAsGood};
 
-use crate::overseer::Overseer;
 use crate::pursuit::pursue;
 use crate::shelf::Shelf;
 use pesp_cert::Fronted;
+use pesp_looks::Overseer;
 use pesp_problem::Instance;
 use pesp_runs::{Fault, OnBase, Search};
 use pesp_sharp_search::{Going, Sharpener};
@@ -55,7 +55,7 @@ impl<H: Shelf, F: Sharpener, K: Overseer> KeptPlan<H, F, K> {
 
 impl<H: Shelf, F: Sharpener, K: Overseer> Search for KeptPlan<H, F, K> {
     ghost use Rattle.std.specs.Prelude.{◌≡◌, None, ⊤};
-    ghost use Rattle.pesp_tasks.specs.Solving.{SolutionStops};
+    ghost use Rattle.pesp_runs.specs.Causes.{SolutionStops};
     ghost use Rattle.pesp_plan.specs.Planning.{KeepsAndWrites};
 
     // Nothing stands on the shelf yet.

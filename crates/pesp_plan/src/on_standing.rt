@@ -4,14 +4,14 @@ ghost use Rattle.std.specs.Prelude.{◌≡◌, ◌≢◌, ◌<◌, ◌^◌, ◌�
 ghost use Rattle.std.specs.Io.KnownBytes.{Appends};
 ghost use Rattle.pesp_stream.specs.Counts.{FewerThan};
 ghost use Rattle.pesp_check.specs.Devices.{over};
-ghost use Rattle.pesp_runs.specs.Causes.{OutCause};
-ghost use Rattle.pesp_tasks.specs.Solving.{SolutionStops};
+ghost use Rattle.pesp_runs.specs.Causes.{OutCause, SolutionStops};
 ghost use Rattle.pesp_plan.specs.Planning.{KeepsAndWrites, KeepsOn};
 ghost use Rattle.pesp_old_times.specs.Beginning.{FromStanding, FromStandingCause};
 
-use crate::{KeptPlan, Overseer, Shelf};
+use crate::{KeptPlan, Shelf};
 use pesp_cert::{Fronted, parse_fronted};
 use pesp_judges::{Refusal, Verdict};
+use pesp_looks::Overseer;
 use pesp_old_times::{Listener, begin_with};
 use pesp_problem::Instance;
 use pesp_runs::{Fault, MOST_TEXT, OnBase, Search, read_whole_instance};

@@ -9,14 +9,13 @@ ghost use Rattle.pesp_cert.specs.Fronted.{IsFrontedText, fronted_text};
 ghost use Rattle.pesp_sharp_search.specs.Solving.{IsNoWorse};
 ghost use Rattle.pesp_runs.specs.Bases.{IsSharpBase};
 
-use crate::overseer::Overseer;
 use crate::pursuit::go_to_end;
 use pesp_cert::print_fronted;
+use pesp_looks::Overseer;
 use pesp_problem::Instance;
-use pesp_runs::{Fault, Search};
+use pesp_runs::{Fault, Search, vouch};
 use pesp_sharp_search::{Going, Sharpener};
 use pesp_stream::{Sink, WriteFault};
-use pesp_tasks::vouch;
 use std::alloc::Global;
 
 /// A plan that is made while an overseer lets it be, and written at its end: a certificate with a front where it has one. A sharpener
@@ -59,7 +58,7 @@ fn finish<F: Sharpener, K: Overseer, W: Sink>(
 
 impl<F: Sharpener, K: Overseer> Search for Plan<F, K> {
     ghost use Rattle.std.specs.Prelude.{⊤};
-    ghost use Rattle.pesp_tasks.specs.Solving.{SolutionStops};
+    ghost use Rattle.pesp_runs.specs.Causes.{SolutionStops};
     ghost use Rattle.pesp_plan.specs.Planning.{WritesPlan};
 
     ghost within = { λ _. ⊤ };

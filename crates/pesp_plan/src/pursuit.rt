@@ -5,13 +5,13 @@ ghost use Rattle.pesp_sharp_search.specs.Solving.{IsNoWorse};
 ghost use Rattle.pesp_runs.specs.Bases.{IsSharpBase};
 ghost use Rattle.pesp_plan.specs.Planning.{IsAsGood};
 
-use crate::overseer::Overseer;
 use crate::shelf::Shelf;
 use pesp_cert::Fronted;
+use pesp_looks::Overseer;
 use pesp_problem::Instance;
+use pesp_runs::vouch;
 use pesp_sharp_search::{Going, Sharpener, is_no_worse};
 use pesp_stream::WriteFault;
-use pesp_tasks::vouch;
 use pesp_truth::Answer;
 use std::alloc::Global;
 

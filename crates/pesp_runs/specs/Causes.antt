@@ -73,3 +73,7 @@ abbrev pub OutCause : Fault → Type 0 → Type 0
 OutCause Memory cut = Unit {0}
 OutCause Write cut = cut
 OutCause fault cut = ⊥
+
+-- why no solution went out: what the search passes within so many steps, or a writer of which this is said
+abbrev pub SolutionStops : Fault → Pesp → ℕ → Type 0 → Type 0
+SolutionStops fault p steps cut = (SearchCause fault p steps × LimitCause fault p steps) ⊎ OutCause fault cut

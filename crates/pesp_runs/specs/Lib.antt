@@ -3,3 +3,4 @@ pub mod Runs
 pub mod Reading
 pub mod Causes
 pub mod FaultLines
+pub mod Fronts

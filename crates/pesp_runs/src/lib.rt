@@ -7,6 +7,7 @@
 
 mod base;
 mod fault;
+mod fronted;
 mod jobs;
 mod on_base;
 mod on_works;
@@ -21,6 +22,7 @@ mod texts;
 
 pub use base::Base;
 pub use fault::{Fault, status_of};
+pub use fronted::vouch;
 pub use jobs::jobs_of;
 pub use on_base::{OnBase, run_on_base};
 pub use on_works::{OnWorks, run_on_works};

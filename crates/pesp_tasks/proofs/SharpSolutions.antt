@@ -1,17 +1,16 @@
 -- What is written of certificates that may have a front.
-use Rattle.std.proofs.Common.{◌≡◌, ℕ, List, refl, sym, subst}
-use Rattle.std.specs.Prelude.{Option}
+use Rattle.std.proofs.Common.{◌≡◌, ℕ, List, subst}
 use Rattle.pesp_problem.specs.Timetables.{Pesp}
 use Rattle.pesp_truth.specs.Truth.{IsTrueAnswer}
-use Rattle.pesp_truth.specs.Certificates.{Content, shown_times, Front as FrontOf}
-use Rattle.pesp_cert.specs.Texts.{HasText}
+use Rattle.pesp_truth.specs.Certificates.{shown_times}
 use Rattle.pesp_cert.specs.Fronted.{Fronted, IsFrontedText, fronted_text}
 use Rattle.pesp_search.specs.Solving.{CostsNoMore}
 use Rattle.pesp_sharp_search.specs.Solving.{IsSharpSolved}
 use Rattle.pesp_sharp_search.specs.Grafts.{IsSharpGrafted}
 use Rattle.pesp_sharp_search.specs.declared.sharp_graft.SharpReply.{SharpReply}
 use Rattle.pesp_tasks.specs.Replies.{lines_from}
-use Rattle.pesp_tasks.specs.SharpSolving.{WritesSharpSolution, WritesFronted}
+use Rattle.pesp_runs.specs.Fronts.{WritesFronted}
+use Rattle.pesp_tasks.specs.SharpSolving.{WritesSharpSolution}
 use Rattle.pesp_tasks.specs.SharpOutside.{WritesSharpGraft}
 
 -- a solution was found, and the writer got what is said of its text
@@ -53,11 +52,3 @@ graft {Tells = Tells} replies lines are grafted is_true has_text gets tells = re
   grafted = written grafted is_true has_text gets;
   told = subst Tells are tells;
 }
-
--- a certificate whose parts have a text has it
-pub has_text_of : (c : Fronted) (front : Option FrontOf) (content : Content)
-    → c ≡ record { front = front; content = content } → HasText front content → IsFrontedText (fronted_text c) c
-has_text_of c front content is has =
-    let there : IsFrontedText (fronted_text (record { front = front; content = content }))
-    (record { front = front; content = content }) = record { has_text = has; spelt = refl } in
-    subst (λ (x : Fronted). IsFrontedText (fronted_text x) x) (sym is) there

@@ -10,8 +10,8 @@ use Rattle.pesp_sharp_search.specs.Grafts.{IsSharpGrafted}
 use Rattle.pesp_sharp_search.specs.declared.sharp_graft.SharpReply.{SharpReply}
 use Rattle.pesp_runs.specs.declared.fault.Fault.{Fault}
 use Rattle.pesp_runs.specs.declared.fault.Fault.TheVariants.{NoJob, Memory}
+use Rattle.pesp_runs.specs.Fronts.{WritesFronted}
 use Rattle.pesp_tasks.specs.Replies.{lines_from}
-use Rattle.pesp_tasks.specs.SharpSolving.{WritesFronted}
 
 -- ---- split
 

@@ -8,6 +8,7 @@ use Rattle.pesp_search.specs.Solving.{CostsNoMore}
 use Rattle.pesp_sharp_search.specs.Solving.{IsSharpSolved, IsSharpResumed}
 use Rattle.pesp_runs.specs.Bases.{ReadsSharpBase}
 use Rattle.pesp_runs.specs.Runs.{Alone, OverBase}
+use Rattle.pesp_runs.specs.Fronts.{WritesFronted}
 
 -- the writer got what the relation says of the text of a certificate with its front that solves the instance within so
 -- many steps, from these times where there are some; its answer is true, and it costs no more than they do where they
@@ -24,14 +25,6 @@ pub record WritesSharpSolution (p : Pesp) (times : List ℕ) (steps : ℕ) (Gets
 -- the reader's text has an instance, and a solution of it is written
 abbrev pub SolvesSharp : Option (List ℕ) → Option (List ℕ) → ℕ → ℕ → (List ℕ → Type 0) → Type 0
 SolvesSharp told left period steps Gets = Alone (λ p times Gets. WritesSharpSolution p times steps Gets) told left period Gets
-
--- the writer got what the relation says of the text of a certificate with its front, of which this is said; its answer is true
-pub record WritesFronted (p : Pesp) (Holds : Fronted → Type 0) (Gets : List ℕ → Type 0) : Type 0 where
-  pub certificate : Fronted
-  pub holds : Holds certificate
-  pub is_true : IsTrueAnswer p certificate.content.answer (shown_times certificate.content)
-  pub has_text : IsFrontedText (fronted_text certificate) certificate
-  pub written : Gets (fronted_text certificate)
 
 -- a search leads to it from the base, within so many steps
 abbrev pub WritesSharpResumed : Pesp → Fronted → ℕ → (List ℕ → Type 0) → Type 0

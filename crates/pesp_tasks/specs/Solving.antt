@@ -7,7 +7,7 @@ use Rattle.pesp_cert.specs.Texts.{spelling, HasText}
 use Rattle.pesp_search.specs.Solving.{IsSolved, CostsNoMore}
 use Rattle.pesp_check.specs.Devices.{Device, HasFailed, GetsFront}
 use Rattle.pesp_runs.specs.Reading.{ReadsInstance}
-use Rattle.pesp_runs.specs.Causes.{InstanceCause, SearchCause, LimitCause, OutCause}
+use Rattle.pesp_runs.specs.Causes.{InstanceCause, SolutionStops}
 use Rattle.pesp_runs.specs.declared.fault.Fault.{Fault}
 
 -- the writer got what the relation says of the text of a certificate that solves the instance within so many steps,
@@ -21,10 +21,6 @@ pub record WritesSolution (p : Pesp) (times : List ℕ) (steps : ℕ) (Gets : Li
   pub is_true : IsTrueAnswer p certificate.answer (shown_times certificate)
   pub has_text : HasText None certificate
   pub written : Gets (spelling None certificate)
-
--- why no solution went out: what the search passes within so many steps, or a writer of which this is said
-abbrev pub SolutionStops : Fault → Pesp → ℕ → Type 0 → Type 0
-SolutionStops fault p steps cut = (SearchCause fault p steps × LimitCause fault p steps) ⊎ OutCause fault cut
 
 -- the reader's text has an instance, and a solution of it is written
 abbrev pub Solves : Option (List ℕ) → Option (List ℕ) → ℕ → ℕ → (List ℕ → Type 0) → Type 0

@@ -2,7 +2,6 @@
 //! a task of a run; and the runs of single commands.
 #![tactic(auto)]
 
-mod fronted;
 mod gap;
 mod gap_json;
 mod gap_text;
@@ -20,7 +19,6 @@ mod solve;
 mod split;
 mod work;
 
-pub use fronted::vouch;
 pub use gap::Gap;
 pub use gap_json::GapJson;
 pub use graft::{Graft, run_graft};

@@ -1,10 +1,9 @@
 //! Works grafted onto a certificate that may have a front.
 
-use crate::fronted::vouch;
 use crate::replies::lines_of;
 use pesp_cert::{Fronted, print_fronted};
 use pesp_problem::Instance;
-use pesp_runs::{Fault, OnWorks};
+use pesp_runs::{Fault, OnWorks, vouch};
 use pesp_sharp_search::graft_sharp;
 use pesp_stream::{Bytes, Sink, print_to};
 use std::alloc::Global;

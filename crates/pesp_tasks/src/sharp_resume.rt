@@ -8,10 +8,9 @@ ghost use Rattle.pesp_runs.specs.Causes.{OutCause};
 ghost use Rattle.pesp_runs.specs.Bases.{IsSharpBase};
 ghost use Rattle.pesp_tasks.specs.SharpSolving.{WritesSharpResumed};
 
-use crate::fronted::vouch;
 use pesp_cert::{Fronted, print_fronted};
 use pesp_problem::Instance;
-use pesp_runs::{Fault, OnBase};
+use pesp_runs::{Fault, OnBase, vouch};
 use pesp_sharp_search::{SharpWatcher, Sharpener, resume_sharp};
 use pesp_stream::Sink;
 use std::alloc::Global;

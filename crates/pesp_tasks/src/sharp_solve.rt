@@ -1,9 +1,8 @@
 //! The search for a best timetable, with leaves that marked walks sharpen.
 
-use crate::fronted::vouch;
 use pesp_cert::print_fronted;
 use pesp_problem::Instance;
-use pesp_runs::{Fault, Search};
+use pesp_runs::{Fault, Search, vouch};
 use pesp_sharp_search::{SharpObserver, Sharpener, solve_sharp};
 use pesp_stream::Sink;
 use std::alloc::Global;
@@ -25,7 +24,7 @@ pub struct SolveSharp<F, O> {
 impl<F: Sharpener, O: SharpObserver> Search for SolveSharp<F, O> {
     ghost use Rattle.std.specs.Prelude.{◌≤◌};
     ghost use Rattle.pesp_problem.specs.declared.limits.TheConstants.{MOST_STEPS};
-    ghost use Rattle.pesp_tasks.specs.Solving.{SolutionStops};
+    ghost use Rattle.pesp_runs.specs.Causes.{SolutionStops};
     ghost use Rattle.pesp_tasks.specs.SharpSolving.{WritesSharpSolution};
 
     ghost within = { λ s. s.steps ≤ MOST_STEPS };

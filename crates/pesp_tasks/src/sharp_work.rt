@@ -1,9 +1,8 @@
 //! Work on open leaves of a certificate that may have a front.
 
-use crate::fronted::vouch;
 use pesp_cert::{Fronted, print_fronted};
 use pesp_problem::Instance;
-use pesp_runs::{Fault, OnBase};
+use pesp_runs::{Fault, OnBase, vouch};
 use pesp_sharp_search::{Sharpener, Unwatched, work_sharp};
 use pesp_stream::Sink;
 use std::alloc::Global;

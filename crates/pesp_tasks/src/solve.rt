@@ -25,7 +25,8 @@ pub struct Solve<F, O> {
 impl<F: TimesFinder, O: Observer> Search for Solve<F, O> {
     ghost use Rattle.std.specs.Prelude.{◌≤◌};
     ghost use Rattle.pesp_problem.specs.declared.limits.TheConstants.{MOST_STEPS};
-    ghost use Rattle.pesp_tasks.specs.Solving.{WritesSolution, SolutionStops};
+    ghost use Rattle.pesp_runs.specs.Causes.{SolutionStops};
+    ghost use Rattle.pesp_tasks.specs.Solving.{WritesSolution};
 
     ghost within = { λ s. s.steps ≤ MOST_STEPS };
 

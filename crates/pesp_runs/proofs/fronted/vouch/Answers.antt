@@ -1,6 +1,6 @@
 use Rattle.std.proofs.Common.{sym, arith}
-use Rattle.pesp_tasks.proofs.SharpSolutions.{has_text_of}
-use Rattle.pesp_tasks.proofs.fronted.vouch.Goals as goal
+use Rattle.pesp_runs.proofs.FrontedTexts.{has_text_of}
+use Rattle.pesp_runs.proofs.fronted.vouch.Goals as goal
 
 pub returns-clause-is_true : goal.returns-clause-is_true
 returns-clause-is_true c = c.valid_is_true.ensures _ c.args.instance.now _

@@ -1,7 +1,7 @@
 //! Who looks on while a plan is made.
 
 use pesp_problem::Instance;
-use pesp_sharp_search::{Observer, SharpWatcher};
+use pesp_search::{Observer, SharpWatcher};
 use pesp_truth::Answer;
 
 /// Somebody who looks on while a plan is made, and says when it ends: as a watcher of the search it ends a piece of it. No promise

@@ -1,11 +1,9 @@
 //! How far a search is, told while it works. No promise of an answer speaks of it.
 
-ghost use Rattle.std.specs.Prelude.{◌≡◌, ◌↔◌, ◌<◌, ◌≤◌, ◌*◌, min, max, IsTrue};
-ghost use Rattle.pesp_plan.specs.Looks.{IsMilestone};
-
 use pesp_board::Board;
-use pesp_search::{Observer, SearchPhase};
-use pesp_sharp_search::{SharpObserver, Standing};
+use pesp_looks::Milestones;
+use pesp_search::{Observer, SearchPhase, Standing};
+use pesp_sharp_search::SharpObserver;
 use std::fmt;
 use std::rt::Clock;
 use std::time::{Duration, Instant};
@@ -96,54 +94,28 @@ impl fmt::Display for SearchProgress {
     }
 }
 
-/// Which looks at a search are told: the first one, that at each doubling of the steps, and that at each better timetable.
-#[derive(Clone, Copy, Drop)]
-pub struct Milestones {
-    due: u32,
-    cost: Option<u64>,
-}
-
-impl Milestones {
-    /// None was told so far.
-    pub fn new() -> Milestones {
-        Milestones { due: 0, cost: None }
-    }
-
-    /// Whether a look is told after so many steps, at which the best timetable costs so much.
-    fn is_told(&mut self, steps: u32, cost: Option<u64>) -> bool
-        ensures told { IsTrue result ↔ IsMilestone self.old steps cost }
-        ensures cost { self.new.cost ≡ cost }
-        ensures due { self.old.due ≤ steps → self.new.due ≡ max 1 (min (steps * 2) u32.MAX) }
-        ensures later { steps < self.old.due → self.new.due ≡ self.old.due }
-    {
-        if steps < self.due && cost == self.cost {
-            return false;
-        }
-        if steps >= self.due {
-            self.due = steps.saturating_mul(2).max(1);
-        }
-        self.cost = cost;
-        true
-    }
-
-    /// How far the search is, where this look is told.
-    pub fn passed(&mut self, steps: u32, board: &Board) -> Option<SearchProgress> {
-        if self.is_told(steps, board.best()) {
-            Some(SearchProgress::of(steps, board))
-        } else {
-            None
-        }
+/// How far the search is, where this look is told.
+pub(crate) fn passed(
+    milestones: &mut Milestones,
+    steps: u32,
+    board: &Board,
+) -> Option<SearchProgress> {
+    if milestones.is_told(steps, board.best()) {
+        Some(SearchProgress::of(steps, board))
+    } else {
+        None
     }
 }
 
-impl Milestones {
-    /// How far a search is that sharpens, where this look is told.
-    pub(crate) fn passed_standing(&mut self, standing: Standing) -> Option<SearchProgress> {
-        if self.is_told(standing.steps_used, standing.cost) {
-            Some(SearchProgress::of_standing(standing))
-        } else {
-            None
-        }
+/// How far a search is that sharpens, where this look is told.
+pub(crate) fn passed_standing(
+    milestones: &mut Milestones,
+    standing: Standing,
+) -> Option<SearchProgress> {
+    if milestones.is_told(standing.steps_used, standing.cost) {
+        Some(SearchProgress::of_standing(standing))
+    } else {
+        None
     }
 }
 
@@ -304,7 +276,7 @@ impl<R: Eprint + Clock> Observer for Teller<'_, R> {
 
     fn look(&mut self, steps_used: u32, board: &Board) {
         let now = self.now();
-        match self.milestones.passed(steps_used, board) {
+        match passed(&mut self.milestones, steps_used, board) {
             Some(progress) => self.tell(progress, now),
             None if self.is_due(now) => self.tell(SearchProgress::of(steps_used, board), now),
             None => {}

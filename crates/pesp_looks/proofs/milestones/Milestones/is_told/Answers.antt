@@ -1,7 +1,7 @@
 use Rattle.std.proofs.Common.{arith, ap, ◌∙◌, max}
 use Rattle.std.proofs.Math.Nat.{max_comm}
-use Rattle.pesp_plan.proofs.progress.Milestones.is_told.Goals as goal
-use Rattle.pesp_plan.proofs.progress.Milestones.is_told.Goals.{then-steps-self-2, else-steps-self-2}
+use Rattle.pesp_looks.proofs.milestones.Milestones.is_told.Goals as goal
+use Rattle.pesp_looks.proofs.milestones.Milestones.is_told.Goals.{then-steps-self-2, else-steps-self-2}
 
 pub returns-clause-due : goal.returns-clause-due
 returns-clause-due c below = elim c.if-steps-self-2.branch [

@@ -83,14 +83,14 @@ fn next_behind(next: NextHeader, line: &str) -> NextHeader {
 
 /// A reader that looks for the period of the certificate that it gives.
 #[derive(Drop)]
-pub(crate) struct Beginning<S> {
+pub struct Beginning<S> {
     inner: S,
     kept: PeriodScan,
 }
 
 impl<S: Read> Beginning<S> {
     /// The reader, of which nothing is read yet.
-    pub(crate) fn of(inner: S) -> Beginning<S> {
+    pub fn of(inner: S) -> Beginning<S> {
         Beginning {
             inner,
             kept: PeriodScan::new(),
@@ -99,7 +99,7 @@ impl<S: Read> Beginning<S> {
 
     /// Whether the reader is closed, which is asked by reading no byte. So a closed standard input is told before its number is
     /// given to a file that is opened.
-    pub(crate) fn is_closed(&mut self) -> bool {
+    pub fn is_closed(&mut self) -> bool {
         let mut nothing = [0_u8; 0];
         match self.inner.read(&mut nothing) {
             Ok(_) => false,
@@ -108,7 +108,7 @@ impl<S: Read> Beginning<S> {
     }
 
     /// The period of the certificate, where one was given.
-    pub(crate) fn period(&self) -> Option<u32> {
+    fn period(&self) -> Option<u32> {
         self.kept.period
     }
 }
@@ -142,8 +142,9 @@ impl fmt::Display for OtherPeriod {
     }
 }
 
-/// Warns where the times that were read stand in a certificate of another period.
-pub(crate) fn warn_of_period<R: Eprint, S: Read>(rt: &R, input: &Beginning<S>, asked: u32) {
+/// Warns on standard error where the times that were read stand in a certificate of another period than the one that is asked
+/// for. A line that can't be written is dropped.
+pub fn warn_of_period<R: Eprint, S: Read>(rt: &R, input: &Beginning<S>, asked: u32) {
     if let Some(found) = input.period() {
         if found != asked {
             let _ = rt.eprintln(OtherPeriod { found, asked });

@@ -22,7 +22,7 @@ struct Lookout<'a, R> {
 /// A reader of an instance, which tells on standard error that a first record that begins with a letter is passed over as a header,
 /// where that is wanted.
 #[derive(Drop)]
-pub(crate) struct Headed<'a, R, S> {
+pub struct Headed<'a, R, S> {
     inner: S,
     lookout: Lookout<'a, R>,
 }
@@ -81,8 +81,8 @@ impl<R: Eprint> Lookout<'_, R> {
 }
 
 impl<'a, R: Eprint, S: Read> Headed<'a, R, S> {
-    /// The reader, of which nothing is read yet.
-    pub(crate) fn of(inner: S, rt: Option<&'a R>) -> Headed<'a, R, S> {
+    /// The reader, of which nothing is read yet. It tells by the runtime that is given, and nothing where none is.
+    pub fn of(inner: S, rt: Option<&'a R>) -> Headed<'a, R, S> {
         let lookout = Lookout {
             rt,
             place: ReaderPlace::Lead,
@@ -92,7 +92,7 @@ impl<'a, R: Eprint, S: Read> Headed<'a, R, S> {
     }
 
     /// The reader that it is made of.
-    pub(crate) fn into_inner(self) -> S {
+    pub fn into_inner(self) -> S {
         self.inner
     }
 }

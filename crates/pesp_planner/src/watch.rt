@@ -1,11 +1,12 @@
 //! Who looks on while a search goes on from a certificate: it is told how far it is, and the search ends when its time is over.
 
 ghost use Rattle.std.specs.Prelude.{◌≡◌, ◌↔◌, ⊤, true, IsSome, IsTrue};
-ghost use Rattle.pesp_plan.specs.Looks.{AreOver};
+ghost use Rattle.pesp_looks.specs.Looks.{AreOver};
 
-use crate::progress::Milestones;
+use crate::progress::{passed, passed_standing};
 use pesp_board::Board;
-use pesp_sharp_search::{SharpWatcher, Standing};
+use pesp_looks::{Milestones, are_over};
+use pesp_search::{SharpWatcher, Standing};
 use pesp_turns::Watcher;
 use std::time::{Clock, Instant};
 
@@ -59,21 +60,10 @@ impl<'a, R: Eprint + Clock> Watch<'a, R> {
     }
 }
 
-/// Whether so many seconds are over, where they are counted, when so many have gone.
-pub(crate) fn are_over(most: Option<u32>, gone: Option<u64>) -> bool
-    ensures { IsTrue result ↔ AreOver most gone }
-{
-    match (most, gone) {
-        (Some(most), Some(gone)) => u64::from(most) <= gone,
-        (Some(_), None) => false,
-        (None, _) => false,
-    }
-}
-
 impl<R: Eprint + Clock> SharpWatcher for Watch<'_, R> {
     fn goes_on(&mut self, standing: Standing) -> bool {
         if let Some(milestones) = &mut self.milestones {
-            if let Some(progress) = milestones.passed_standing(standing) {
+            if let Some(progress) = passed_standing(milestones, standing) {
                 let _ = self.rt.eprintln(progress);
             }
         }
@@ -90,7 +80,7 @@ impl<R: Eprint + Clock> Watcher for Watch<'_, R> {
 
     fn goes_on(&mut self, steps_used: u32, board: &Board) -> bool {
         if let Some(milestones) = &mut self.milestones {
-            if let Some(progress) = milestones.passed(steps_used, board) {
+            if let Some(progress) = passed(milestones, steps_used, board) {
                 let _ = self.rt.eprintln(progress);
             }
         }

@@ -1,6 +1,6 @@
 -- When the time of a search is over, and which looks at it are told.
 use Rattle.std.specs.Prelude.{◌≢◌, ◌⊎◌, ℕ, ◌≤◌, Option, Some, None}
-use Rattle.pesp_plan.specs.declared.progress.Milestones.{Milestones}
+use Rattle.pesp_looks.specs.declared.milestones.Milestones.{Milestones}
 
 -- seconds are counted, a clock was read, and by its reading no fewer have gone
 abbrev pub AreOver : Option ℕ → Option ℕ → Type 0

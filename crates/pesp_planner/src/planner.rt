@@ -1,16 +1,14 @@
 //! Who looks on while a plan is made: it is told how far it is, and the plan ends when its time is over.
 
 ghost use Rattle.std.specs.Prelude.{◌≡◌, ◌↔◌, Some, IsTrue};
-ghost use Rattle.pesp_plan.specs.Looks.{AreOver};
+ghost use Rattle.pesp_looks.specs.Looks.{AreOver};
 
-use crate::Overseer;
 use crate::plan_words::{Again, PlanOutcome, PlanStage, Sizes};
 use crate::progress::{SECONDS, SearchProgress, words_of};
-use crate::watch::are_over;
 use pesp_board::Board;
+use pesp_looks::{Overseer, are_over};
 use pesp_problem::Instance;
-use pesp_search::{Observer, SearchPhase};
-use pesp_sharp_search::{SharpWatcher, Standing};
+use pesp_search::{Observer, SearchPhase, SharpWatcher, Standing};
 use pesp_truth::Answer;
 use std::fmt::Display;
 use std::time::{Clock, Instant};

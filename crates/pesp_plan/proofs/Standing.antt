@@ -8,7 +8,7 @@ use Rattle.pesp_truth.specs.Certificates.{shown_times, least_of, cost_of}
 use Rattle.pesp_tree.specs.States.{IsAtMost}
 use Rattle.pesp_cert.specs.Fronted.{Fronted, IsFrontedText, fronted_text}
 use Rattle.pesp_search.specs.Solving.{CostsNoMore}
-use Rattle.pesp_sharp_search.specs.Solving.{IsNoWorse}
+use Rattle.pesp_sharp_work.specs.Ranks.{IsNoWorse}
 use Rattle.pesp_sharp_search.proofs.Choices.{costs_no_more}
 use Rattle.pesp_runs.specs.Bases.{IsSharpBase}
 use Rattle.pesp_plan.specs.Planning.{MayBePut, IsAsGood, StandsNoWorse, WritesPlan, KeepsPlan}

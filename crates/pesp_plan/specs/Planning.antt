@@ -6,7 +6,7 @@ use Rattle.pesp_truth.specs.Truth.{IsTrueAnswer}
 use Rattle.pesp_truth.specs.Certificates.{shown_times}
 use Rattle.pesp_cert.specs.Fronted.{Fronted, IsFrontedText, fronted_text}
 use Rattle.pesp_search.specs.Solving.{CostsNoMore}
-use Rattle.pesp_sharp_search.specs.Solving.{IsNoWorse}
+use Rattle.pesp_sharp_work.specs.Ranks.{IsNoWorse}
 use Rattle.pesp_runs.specs.Bases.{IsSharpBase}
 use Rattle.pesp_runs.specs.Fronts.{WritesFronted}
 

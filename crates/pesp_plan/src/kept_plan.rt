@@ -1,7 +1,7 @@
 //! A plan that is kept where others read it.
 
 ghost use Rattle.std.specs.Prelude.{IfSome, OnOk};
-ghost use Rattle.pesp_sharp_search.specs.Solving.{IsNoWorse};
+ghost use Rattle.pesp_sharp_work.specs.Ranks.{IsNoWorse};
 ghost use Rattle.pesp_runs.specs.Bases.{IsSharpBase};
 ghost use Rattle.pesp_plan.specs.Planning.{IsAsGood};
 

@@ -6,7 +6,7 @@ ghost use Rattle.pesp_stream.specs.Writing.{Writes};
 ghost use Rattle.pesp_truth.specs.Truth.{IsTrueAnswer};
 ghost use Rattle.pesp_truth.specs.Certificates.{shown_times};
 ghost use Rattle.pesp_cert.specs.Fronted.{IsFrontedText, fronted_text};
-ghost use Rattle.pesp_sharp_search.specs.Solving.{IsNoWorse};
+ghost use Rattle.pesp_sharp_work.specs.Ranks.{IsNoWorse};
 ghost use Rattle.pesp_runs.specs.Bases.{IsSharpBase};
 
 use crate::pursuit::go_to_end;

@@ -1,7 +1,7 @@
 //! A search that goes on piece by piece, and what is kept of it.
 
 ghost use Rattle.std.specs.Prelude.{◌≡◌, ◌↔◌, IsTrue, IfSome, OnOk, OnErr};
-ghost use Rattle.pesp_sharp_search.specs.Solving.{IsNoWorse};
+ghost use Rattle.pesp_sharp_work.specs.Ranks.{IsNoWorse};
 ghost use Rattle.pesp_runs.specs.Bases.{IsSharpBase};
 ghost use Rattle.pesp_plan.specs.Planning.{IsAsGood};
 
@@ -10,7 +10,8 @@ use pesp_cert::Fronted;
 use pesp_looks::Overseer;
 use pesp_problem::Instance;
 use pesp_runs::vouch;
-use pesp_sharp_search::{Going, Sharpener, is_no_worse};
+use pesp_sharp_search::{Going, Sharpener};
+use pesp_sharp_work::is_no_worse;
 use pesp_stream::WriteFault;
 use pesp_truth::Answer;
 use std::alloc::Global;

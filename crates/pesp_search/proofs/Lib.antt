@@ -6,6 +6,3 @@ pub mod RootLooks
 pub mod Turns
 pub mod Costs
 pub mod Solutions
-mod Lesser
-mod Retelling
-mod Branching

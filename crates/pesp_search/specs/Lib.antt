@@ -4,5 +4,3 @@ pub mod Beginning
 pub mod Refusals
 pub mod Rooting
 pub mod Searching
-pub mod Told
-pub mod Parts

@@ -1,18 +1,12 @@
 //! Branch and bound for periodic timetables: a timetable with a certificate of how good it is (Odijk 1996; Nachtigall and
 //! Opitz 2008; Liebchen 2006).
 //!
-//! What a valid certificate may say of itself beyond what a check asks for: the least bound that its tree shows, told as its
-//! answer, and branches that leave both of their parts an offset.
-//!
 //! What a search that sharpens asks for, whoever proposes it: certificates whose leaves name marked walks beside cycles
 //! (Nachtigall 1998; Lindner and others 2020). Nothing is promised of what is proposed: others judge it.
 #![tactic(auto)]
 
 mod begun;
-mod branches;
-mod copies;
 mod given_times;
-mod least;
 mod leaves;
 mod lifted_problem;
 mod look;
@@ -23,12 +17,10 @@ mod race;
 mod refusal;
 mod root;
 mod sharpener;
-mod shown_answer;
 mod single;
 mod solution;
 mod standing;
 
-pub use branches::branches_leave_both;
 pub use leaves::Leaves;
 pub use look::{FirstLook, look_first};
 pub use pace::Pace;
@@ -36,6 +28,5 @@ pub use pesp_turns::{Nobody, Observer, SearchPhase};
 pub use proposals::Proposals;
 pub use refusal::SolveRefusal;
 pub use sharpener::Sharpener;
-pub use shown_answer::retold;
 pub use solution::{Solved, solve_from, solve_watched};
 pub use standing::{SharpWatcher, Standing, Unwatched};

@@ -13,8 +13,9 @@ use Rattle.pesp_branching.specs.Turns.{HasBranches}
 use Rattle.pesp_branching.proofs.Rooms.{fewer_branches}
 use Rattle.pesp_branching.proofs.Branches.{as_lines}
 use Rattle.pesp_search.specs.Solving.{IsSolved, CostsNoMore}
-use Rattle.pesp_search.specs.Told.{TellsLeast, IsRetold}
-use Rattle.pesp_sharp_search.specs.Solving.{IsNoWorse, IsPlainAnswer, MayStand, StandsWhole, IsSharpSolved, IsSharpResumed}
+use Rattle.pesp_sharp_work.specs.Told.{IsRetold}
+use Rattle.pesp_sharp_work.specs.Ranks.{IsNoWorse}
+use Rattle.pesp_sharp_search.specs.Solving.{IsPlainAnswer, MayStand, StandsWhole, IsSharpSolved, IsSharpResumed}
 
 at_most_itself : (a : Option ℕ) → IsAtMost a a
 at_most_itself None = tt
@@ -75,16 +76,6 @@ base_stands p base steps valid = record {
 pub plain_whole : (p : Pesp) (c : Fronted) (steps : ℕ) → IsPlainAnswer p c → StandsWhole p c.content.answer steps c
 plain_whole p c steps plain =
     (plain_stands p c steps plain, subst (HasBranches (net_of p) c.content) (sym plain.1.branches.lines) plain.1.branches)
-
--- a certificate that tells what its tree shows is told again as it is
-pub told_itself : (p : Pesp) (c : Fronted) → IsValid c.front p c.content → TellsLeast p c → IsRetold p c c
-told_itself p c valid told = record {
-  valid = valid;
-  told = told;
-  same = refl;
-  least = at_most_itself (least_of c.content.answer);
-  cost = refl;
-}
 
 -- what is told again has the same branches
 same_branches : (n : Net) (content : Content) (answer : Answer) (used : ℕ) → HasBranches n content used

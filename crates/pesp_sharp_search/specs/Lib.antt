@@ -1,6 +1,2 @@
 pub mod Solving
-pub mod Jobs
-pub mod Paths
-pub mod Cutting
-pub mod Grafts
 pub mod Keeping

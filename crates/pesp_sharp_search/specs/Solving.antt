@@ -4,17 +4,13 @@ use Rattle.pesp_problem.specs.Timetables.{Pesp}
 use Rattle.pesp_problem.specs.Arcs.{net_of}
 use Rattle.pesp_problem.specs.Nodes.{root}
 use Rattle.pesp_truth.specs.declared.answer.Answer.{Answer}
-use Rattle.pesp_truth.specs.Certificates.{Content, lines_of, least_of, cost_of, IsValid}
+use Rattle.pesp_truth.specs.Certificates.{Content, lines_of, IsValid}
 use Rattle.pesp_cert.specs.Fronted.{Fronted}
-use Rattle.pesp_tree.specs.States.{IsAtMost}
 use Rattle.pesp_branching.specs.Rooms.{branch_lines, room}
 use Rattle.pesp_branching.specs.Turns.{HasBranches}
 use Rattle.pesp_search.specs.Solving.{IsSolved}
-use Rattle.pesp_search.specs.Told.{TellsLeast}
-
--- the other answer's bound isn't below this one's, and its cost isn't above; none stands above every number
-abbrev pub IsNoWorse : Answer → Answer → Type 0
-IsNoWorse old new = IsAtMost (least_of old) (least_of new) × IsAtMost (cost_of new) (cost_of old)
+use Rattle.pesp_sharp_work.specs.Told.{TellsLeast}
+use Rattle.pesp_sharp_work.specs.Ranks.{IsNoWorse}
 
 -- a certificate without a front that a search without marked walks has within 0 steps
 abbrev pub IsPlainAnswer : Pesp → Fronted → Type 0

@@ -4,15 +4,14 @@ ghost use Rattle.std.specs.Prelude.{◌≡◌, ◌↔◌, ℕ, List, IsTrue, IfO
 ghost use Rattle.pesp_truth.specs.Certificates.{lines_of, IsValid};
 ghost use Rattle.pesp_branching.specs.Rooms.{branch_lines};
 ghost use Rattle.pesp_search.specs.Solving.{CostsNoMore};
-ghost use Rattle.pesp_search.specs.Told.{IsRetold};
 ghost use Rattle.pesp_sharp_search.specs.Solving.{IsPlainAnswer, MayStand, StandsWhole, IsSharpSolved};
 
 use crate::branches::count_branches;
-use crate::ranks::is_no_worse;
 use pesp_cert::{Certificate, Fronted};
 use pesp_judges::Verdict;
 use pesp_problem::{Instance, Memory};
-use pesp_search::{Proposals, branches_leave_both, retold};
+use pesp_search::Proposals;
+use pesp_sharp_work::{branches_leave_both, is_no_worse, told_in_full};
 use pesp_truth::Answer;
 use pesp_whole_check::check_sharp;
 use std::alloc::Global;
@@ -149,32 +148,6 @@ fn chosen(
     match whole_standing(alloc, instance, answer, proposals, steps)? {
         Some(found) => Ok(found),
         None => Ok(plain),
-    }
-}
-
-/// A valid certificate with the answer that its tree shows beside its times.
-pub(crate) fn told_in_full(
-    alloc: Global,
-    instance: &Instance,
-    found: Fronted,
-) -> Result<Fronted, Memory>
-    requires { IsValid found.front instance.now found.content }
-    ensures { IfOk result (IsRetold instance.now found) }
-{
-    match retold(alloc, instance, &found) {
-        Ok(None) => Ok(found),
-        Ok(Some(told)) => {
-            let Fronted { front, certificate } = found;
-            drop(certificate);
-            Ok(Fronted {
-                front,
-                certificate: told,
-            })
-        }
-        Err(refused) => {
-            drop(found);
-            Err(refused)
-        }
     }
 }
 

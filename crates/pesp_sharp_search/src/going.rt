@@ -5,7 +5,8 @@ ghost use Rattle.pesp_truth.specs.Certificates.{IsValid};
 ghost use Rattle.pesp_branching.specs.Turns.{IsOpenAnswer};
 ghost use Rattle.pesp_search.specs.Refusals.{MeetsLimit};
 ghost use Rattle.pesp_search.specs.Solving.{CostsNoMore, IsSearchRefusal};
-ghost use Rattle.pesp_sharp_search.specs.Solving.{IsNoWorse, IsPlainAnswer, MayStand};
+ghost use Rattle.pesp_sharp_work.specs.Ranks.{IsNoWorse};
+ghost use Rattle.pesp_sharp_search.specs.Solving.{IsPlainAnswer, MayStand};
 
 use crate::choice::{first_standing, without_front};
 use pesp_cert::Fronted;

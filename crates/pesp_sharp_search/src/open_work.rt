@@ -2,14 +2,14 @@
 
 ghost use Rattle.std.specs.Prelude.{◌≡◌, ◌<◌, ◌↔◌, ◌⊎◌, All, IfOk, IfSome, IsTrue, MatchOption, Some};
 ghost use Rattle.pesp_truth.specs.Certificates.{IsValid};
-ghost use Rattle.pesp_sharp_search.specs.Jobs.{AreJobsOf};
-ghost use Rattle.pesp_sharp_search.specs.Keeping.{IsSharpWorked, KeepsOtherLeaves};
+ghost use Rattle.pesp_sharp_work.specs.Jobs.{AreJobsOf};
+ghost use Rattle.pesp_sharp_work.specs.Keeping.{KeepsOtherLeaves};
+ghost use Rattle.pesp_sharp_search.specs.Keeping.{IsSharpWorked};
 
-use crate::jobs::{is_open, open_count};
-use crate::kept_leaves::keeps_others;
 use crate::{Leaves, SharpWatcher, Sharpener, resume_leaves};
 use pesp_cert::Fronted;
 use pesp_problem::{Instance, Memory};
+use pesp_sharp_work::{is_open, keeps_others, open_count};
 use pesp_whole_check::costs_shown;
 use std::alloc::Global;
 

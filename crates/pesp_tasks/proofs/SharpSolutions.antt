@@ -6,8 +6,8 @@ use Rattle.pesp_truth.specs.Certificates.{shown_times}
 use Rattle.pesp_cert.specs.Fronted.{Fronted, IsFrontedText, fronted_text}
 use Rattle.pesp_search.specs.Solving.{CostsNoMore}
 use Rattle.pesp_sharp_search.specs.Solving.{IsSharpSolved}
-use Rattle.pesp_sharp_search.specs.Grafts.{IsSharpGrafted}
-use Rattle.pesp_sharp_search.specs.declared.sharp_graft.SharpReply.{SharpReply}
+use Rattle.pesp_sharp_work.specs.Grafts.{IsSharpGrafted}
+use Rattle.pesp_sharp_work.specs.declared.sharp_graft.SharpReply.{SharpReply}
 use Rattle.pesp_tasks.specs.Replies.{lines_from}
 use Rattle.pesp_runs.specs.Fronts.{WritesFronted}
 use Rattle.pesp_tasks.specs.SharpSolving.{WritesSharpSolution}

@@ -1,7 +1,7 @@
 -- Lines told one after the other.
 use Rattle.std.proofs.Common.{◌≡◌, ℕ, ◌+◌, ◌<◌, ◌≤◌, arith, ap, sym, ◌∙◌, refl, List, [], ◌∷◌, ◌++◌, length, get_or, drop, append_assoc, append-nil}
 use Rattle.std.proofs.lemmas.List.{drop_all, drop_more}
-use Rattle.pesp_sharp_search.specs.declared.sharp_graft.SharpReply.{SharpReply}
+use Rattle.pesp_sharp_work.specs.declared.sharp_graft.SharpReply.{SharpReply}
 use Rattle.pesp_tasks.specs.Replies.{sharp_reply_line, lines_from}
 
 -- the lines of so many works were told

@@ -2,8 +2,8 @@
 use Rattle.std.specs.Prelude.{ℕ, ◌+◌, List, [], ◌∷◌, ◌++◌, codes, decimal}
 use Rattle.pesp_cert.specs.RefusalLines.{certificate_line}
 use Rattle.pesp_check.specs.Verdicts.{refusal_text}
-use Rattle.pesp_sharp_search.specs.declared.sharp_graft.SharpReply.{SharpReply}
-use Rattle.pesp_sharp_search.specs.declared.sharp_graft.SharpReply.TheVariants.{Taken, AddsNothing, Unread, NotValid, TooLarge}
+use Rattle.pesp_sharp_work.specs.declared.sharp_graft.SharpReply.{SharpReply}
+use Rattle.pesp_sharp_work.specs.declared.sharp_graft.SharpReply.TheVariants.{Taken, AddsNothing, Unread, NotValid, TooLarge}
 
 -- what became of a work; of a refusal its number, name and place
 abbrev pub reply_text : SharpReply → List ℕ

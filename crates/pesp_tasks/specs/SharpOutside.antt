@@ -4,10 +4,10 @@ use Rattle.pesp_problem.specs.Timetables.{Pesp}
 use Rattle.pesp_cert.specs.Fronted.{Fronted}
 use Rattle.pesp_turns.specs.declared.open_job.OpenJob.{OpenJob}
 use Rattle.pesp_turns.specs.JobsTexts.{jobs_text}
-use Rattle.pesp_sharp_search.specs.Jobs.{AreSharpJobs, AreJobsOf}
+use Rattle.pesp_sharp_work.specs.Jobs.{AreSharpJobs, AreJobsOf}
 use Rattle.pesp_sharp_search.specs.Keeping.{IsSharpWorked}
-use Rattle.pesp_sharp_search.specs.Grafts.{IsSharpGrafted}
-use Rattle.pesp_sharp_search.specs.declared.sharp_graft.SharpReply.{SharpReply}
+use Rattle.pesp_sharp_work.specs.Grafts.{IsSharpGrafted}
+use Rattle.pesp_sharp_work.specs.declared.sharp_graft.SharpReply.{SharpReply}
 use Rattle.pesp_runs.specs.declared.fault.Fault.{Fault}
 use Rattle.pesp_runs.specs.declared.fault.Fault.TheVariants.{NoJob, Memory}
 use Rattle.pesp_runs.specs.Fronts.{WritesFronted}

@@ -5,7 +5,7 @@ ghost use Rattle.pesp_tasks.specs.Replies.{sharp_reply_line, lines_from};
 
 use pesp_check::RefusalText;
 use pesp_problem::Memory;
-use pesp_sharp_search::SharpReply;
+use pesp_sharp_work::SharpReply;
 use std::alloc::Global;
 use std::fmt;
 

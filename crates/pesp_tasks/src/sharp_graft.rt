@@ -4,7 +4,7 @@ use crate::replies::lines_of;
 use pesp_cert::{Fronted, print_fronted};
 use pesp_problem::Instance;
 use pesp_runs::{Fault, OnWorks, vouch};
-use pesp_sharp_search::graft_sharp;
+use pesp_sharp_work::graft_sharp;
 use pesp_stream::{Bytes, Sink, print_to};
 use std::alloc::Global;
 

@@ -3,7 +3,7 @@
 use pesp_cert::Fronted;
 use pesp_problem::Instance;
 use pesp_runs::{Fault, OnBase};
-use pesp_sharp_search::sharp_jobs;
+use pesp_sharp_work::sharp_jobs;
 use pesp_stream::{Sink, print_to};
 use pesp_turns::JobsText;
 use std::alloc::Global;

@@ -1,5 +1,5 @@
 use Rattle.std.proofs.Common.{refl, inl}
-use Rattle.pesp_sharp_search.proofs.Keeping.{base_keeps}
+use Rattle.pesp_sharp_work.proofs.Keeping.{base_keeps}
 use Rattle.pesp_sharp_search.proofs.open_work.worked.Goals as goal
 
 pub returns-in_default : goal.returns-in_default

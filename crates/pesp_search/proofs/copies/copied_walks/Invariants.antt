@@ -1,5 +1,0 @@
-use Rattle.std.proofs.Common.{◌≡◌, take}
-use Rattle.pesp_search.proofs.copies.copied_walks.Given as goal
-
-abbrev pub invariant-loop-walk : goal.invariant-loop-walk
-invariant-loop-walk l = l.copies.items ≡ take l.walk-index l.walks

@@ -1,8 +1,0 @@
-use Rattle.std.proofs.Common.{map, true}
-use Rattle.pesp_sharp_search.specs.Jobs.{told_job}
-use Rattle.pesp_sharp_search.specs.Paths.{paths_waiting}
-use Rattle.pesp_sharp_search.proofs.Listing.{AreListed}
-use Rattle.pesp_sharp_search.proofs.jobs.jobs_in.Given as goal
-
-abbrev pub invariant-loop-place : goal.invariant-loop-place
-invariant-loop-place l = AreListed l.cost l.lines l.shown l.place (paths_waiting true l.path.items) (map told_job l.opens.items)

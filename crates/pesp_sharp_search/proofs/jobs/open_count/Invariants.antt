@@ -1,5 +1,0 @@
-use Rattle.pesp_sharp_search.proofs.CountedJobs.{AreCounted}
-use Rattle.pesp_sharp_search.proofs.jobs.open_count.Given as goal
-
-abbrev pub invariant-loop-value : goal.invariant-loop-value
-invariant-loop-value l = AreCounted l.cost l.shown l.value-index l.count

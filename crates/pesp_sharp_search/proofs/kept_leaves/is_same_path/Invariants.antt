@@ -1,5 +1,0 @@
-use Rattle.pesp_sharp_search.proofs.Keeping.{AreAlike}
-use Rattle.pesp_sharp_search.proofs.kept_leaves.is_same_path.Given as goal
-
-abbrev pub invariant-loop-place : goal.invariant-loop-place
-invariant-loop-place l = AreAlike l.a l.b l.place

@@ -8,7 +8,6 @@ mod differences;
 mod edge;
 mod leaf;
 mod passes;
-mod proposal;
 mod shifts;
 mod system;
 

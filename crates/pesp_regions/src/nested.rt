@@ -2,6 +2,7 @@
 
 use crate::region_search::RegionSearch;
 use pesp_network::Network;
+use pesp_offset_tree::TreeSearch;
 use pesp_partition::{Division, Multiplied, Region, Units, Weights, WholeNetwork};
 use pesp_problem::Memory;
 use std::alloc::{AllocError, Global};
@@ -9,8 +10,8 @@ use std::alloc::{AllocError, Global};
 /// A region with its search, and the regions inside it. The extra is added to the sum of their bounds: what inequalities inside
 /// it show that cross them, and what rows outside of them take.
 #[derive(Drop)]
-pub(crate) struct Nested {
-    pub(crate) search: RegionSearch,
+pub(crate) struct Nested<T> {
+    pub(crate) search: RegionSearch<T>,
     pub(crate) inner: Vec<u32>,
     pub(crate) extra: i128,
 }
@@ -32,8 +33,8 @@ pub(crate) struct Level<'a> {
 
 /// Nested regions: all of them, and the number among them of each region of the coarsest division so far.
 #[derive(Drop)]
-pub(crate) struct Nesting {
-    pub(crate) all: Vec<Nested>,
+pub(crate) struct Nesting<T> {
+    pub(crate) all: Vec<Nested<T>>,
     pub(crate) outer: Vec<u32>,
 }
 
@@ -155,12 +156,12 @@ fn size_of(division: &Division, region: u32) -> u32 {
 }
 
 /// The search of a region; None where it is no network.
-fn search_of(
+fn search_of<T: TreeSearch>(
     alloc: Global,
     parted: Parted<'_>,
     level: &Level<'_>,
     region: u32,
-) -> Result<Option<RegionSearch>, Memory> {
+) -> Result<Option<RegionSearch<T>>, Memory> {
     let whole = WholeNetwork {
         network: parted.network,
         division: level.division,
@@ -173,9 +174,9 @@ fn search_of(
     }
 }
 
-impl Nesting {
+impl<T: TreeSearch> Nesting<T> {
     /// No region yet.
-    pub(crate) fn new(alloc: Global) -> Nesting {
+    pub(crate) fn new(alloc: Global) -> Nesting<T> {
         Nesting {
             all: Vec::new(alloc),
             outer: Vec::new(alloc),

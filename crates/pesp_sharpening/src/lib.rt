@@ -3,9 +3,10 @@
 //! judged by others.
 #![tactic(auto)]
 
+mod choosing;
 mod given;
 mod opens;
 mod sharpening;
 mod warm;
 
-pub use sharpening::{Sharpening, Step};
+pub use sharpening::Sharpening;

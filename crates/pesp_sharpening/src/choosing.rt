@@ -1,9 +1,10 @@
 //! Which cut a node is split by: trials of a few exchanges in both parts (Applegate et al. 1995), and what cuts gained so far
 //! (pseudo-costs: Bénichou et al. 1971).
 
-use crate::shared::Shared;
-use pesp_offset_tree::{Candidate, PseudoCosts, worth_trying};
-use pesp_sharp_nodes::{BoundSense, Limit, Setting, UNIT};
+use crate::sharpening::Sharpening;
+use pesp_offset_tree::{Candidate, worth_trying};
+use pesp_sharp_nodes::{BoundSense, Limit, UNIT};
+use pesp_warm_nodes::Shared;
 use std::alloc::AllocError;
 
 /// How many exchanges a trial has in each part.
@@ -26,41 +27,52 @@ const NO_BETTER: u32 = 4;
 /// What is added to each gain before they are multiplied, in 1/2^20.
 const LEAST_GAIN: i128 = 1 << 10;
 
-impl Shared {
+impl Sharpening {
+    /// Notes what a part of a cut gained, in 1/2^20.
+    pub(crate) fn note(&mut self, candidate: Candidate, side: BoundSense, gain: i128) {
+        let Candidate { cut, fraction, .. } = candidate;
+        let outside = match side {
+            BoundSense::AtMost => fraction,
+            BoundSense::AtLeast => UNIT.saturating_sub(fraction),
+        };
+        let cycle = self.sharpener.setting.cycle(cut.cycle);
+        let weight = cycle.map_or(0, |it| it.weight);
+        self.experience.note(cut.cycle, side, gain, outside);
+        self.experience.note_by_weight(gain, outside, weight);
+    }
+
     /// What a part gains in a few exchanges, in 1/2^20, which is noted.
     fn gain(
         &mut self,
-        setting: &Setting,
-        experience: &mut PseudoCosts,
+        shared: &mut Shared,
         candidate: Candidate,
         side: BoundSense,
         limit: Limit,
     ) -> Result<i128, AllocError> {
-        let before = self.value();
+        let before = shared.value();
         let Candidate { cut, .. } = candidate;
-        let Some(old) = self.enter_part(setting, cut, side)? else {
+        let Some(old) = shared.enter_part(&self.sharpener.setting, cut, side)? else {
             return Ok(0);
         };
-        let end = self.solve(limit, EXCHANGES)?;
-        let gain = self.gain_since(before, end, limit);
-        note(setting, experience, candidate, side, gain);
-        self.leave_part(setting, cut, old)?;
+        let end = shared.solve(limit, EXCHANGES)?;
+        let gain = shared.gain_since(before, end, limit);
+        self.note(candidate, side, gain);
+        shared.leave_part(&self.sharpener.setting, cut, old)?;
         Ok(gain)
     }
 
     /// How good a cut is: the product of what both parts gain, or are expected to gain.
     fn score(
         &mut self,
-        setting: &Setting,
-        experience: &mut PseudoCosts,
+        shared: &mut Shared,
         candidate: Candidate,
         limit: Limit,
     ) -> Result<u128, AllocError> {
-        if experience.times_tried(candidate.cut.cycle) >= TRUSTED {
+        if self.experience.times_tried(candidate.cut.cycle) >= TRUSTED {
             return Ok(candidate.score.saturating_mul(1 << 8));
         }
-        let low = self.gain(setting, experience, candidate, BoundSense::AtMost, limit)?;
-        let high = self.gain(setting, experience, candidate, BoundSense::AtLeast, limit)?;
+        let low = self.gain(shared, candidate, BoundSense::AtMost, limit)?;
+        let high = self.gain(shared, candidate, BoundSense::AtLeast, limit)?;
         let below = low.saturating_add(LEAST_GAIN);
         let product = below.saturating_mul(high.saturating_add(LEAST_GAIN));
         Ok(u128::try_from(product).unwrap_or(0))
@@ -69,8 +81,7 @@ impl Shared {
     /// The best of some cuts.
     fn best_of(
         &mut self,
-        setting: &Setting,
-        experience: &mut PseudoCosts,
+        shared: &mut Shared,
         list: &[Candidate],
         limit: Limit,
     ) -> Result<Option<Candidate>, AllocError> {
@@ -78,7 +89,7 @@ impl Shared {
         let mut most = 0u128;
         let mut no_better = 0u32;
         for candidate in list {
-            let score = self.score(setting, experience, *candidate, limit)?;
+            let score = self.score(shared, *candidate, limit)?;
             if best.is_none() || score > most {
                 best = Some(*candidate);
                 most = score;
@@ -94,47 +105,30 @@ impl Shared {
     }
 
     /// Keeps the node, with lines for the cycles of some cuts.
-    fn keep_for(&mut self, setting: &Setting, list: &[Candidate]) -> Result<(), AllocError> {
+    fn keep_for(&self, shared: &mut Shared, list: &[Candidate]) -> Result<(), AllocError> {
         for candidate in list {
-            self.keep_line(setting, candidate.cut.cycle)?;
+            shared.keep_line(&self.sharpener.setting, candidate.cut.cycle)?;
         }
-        self.keep_here()
+        shared.keep_here()
     }
 
-    /// The cut by which the node is split; None where all offsets look whole.
-    pub fn choose(
+    /// The cut by which a leaf at a depth is split; None where all its offsets look whole.
+    pub(crate) fn choose_warm(
         &mut self,
-        setting: &Setting,
-        experience: &mut PseudoCosts,
+        shared: &mut Shared,
         depth: u32,
         limit: Limit,
     ) -> Result<Option<Candidate>, AllocError> {
-        self.read_slacks(setting)?;
+        let setting = &self.sharpener.setting;
+        shared.read_slacks(setting)?;
         let most = if depth < DEEP { MANY } else { FEW };
-        let ranges = &self.ranges;
-        let list = worth_trying(self.alloc, setting, experience, ranges, &self.slacks, most)?;
-        self.keep_for(setting, &list)?;
+        let ranges = shared.ranges();
+        let slacks = shared.slacks();
+        let list = worth_trying(self.alloc, setting, &self.experience, ranges, slacks, most)?;
+        self.keep_for(shared, &list)?;
         if list.len() < 2 {
             return Ok(list.first().copied());
         }
-        self.best_of(setting, experience, &list, limit)
+        self.best_of(shared, &list, limit)
     }
-}
-
-/// Notes what a part of a cut gained.
-pub fn note(
-    setting: &Setting,
-    experience: &mut PseudoCosts,
-    candidate: Candidate,
-    side: BoundSense,
-    gain: i128,
-) {
-    let Candidate { cut, fraction, .. } = candidate;
-    let outside = match side {
-        BoundSense::AtMost => fraction,
-        BoundSense::AtLeast => UNIT.saturating_sub(fraction),
-    };
-    let weight = setting.cycle(cut.cycle).map_or(0, |it| it.weight);
-    experience.note(cut.cycle, side, gain, outside);
-    experience.note_by_weight(gain, outside, weight);
 }

@@ -4,3 +4,4 @@ pub mod Levels
 pub mod Circulations
 pub mod Gathering
 pub mod Systems
+pub mod Kept

@@ -32,3 +32,4 @@ pub mod Along
 pub mod Passes
 pub mod Small
 pub mod Flowing
+pub mod Kept

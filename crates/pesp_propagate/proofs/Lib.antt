@@ -14,3 +14,4 @@ pub mod Tallying
 pub mod Listing
 pub mod Climbing
 pub mod Judging
+pub mod Laying

@@ -41,7 +41,7 @@ use Rattle.pesp_board.specs.Insides.{ticket_of, times_of, best_cost_of, state_of
 use Rattle.pesp_board.specs.Parts.{part_line, part_lines, AreValued}
 use Rattle.pesp_board.specs.Growing.{with_parts, news}
 use Rattle.pesp_board.specs.Adopting.{AreSoundLines, AreLinesOf, IsPlantedAlone, IsGrownOf}
-use Rattle.pesp_board.proofs.Queues.{none_held, no_items}
+use Rattle.pesp_board.proofs.Queues.{none_held}
 use Rattle.pesp_board.proofs.Opening.{nothing_lent}
 use Rattle.pesp_board.proofs.Changing.{IsChanged}
 use Rattle.pesp_board.proofs.Growing.{one_changed, one_tree_grown}
@@ -81,6 +81,10 @@ parts_few content parts said k =
     omega (arith, same, most, length-map parts part_line, length-map content.tree line_of)
 
 -- ---- what is planted
+
+no_items : {X : Type 0} (xs : List X) → length xs ≡ 0 → xs ≡ []
+no_items [] e = refl
+no_items (x ∷ xs) e = absurd (omega (arith, e))
 
 pub planted_alone : (parts : List Part) (t u v : WorkTreeValue) (q w : QueueValue) → t ≡ opening_tree
     → u ≡ with_room t u.room → q.waiting ≡ [] → q.parked ≡ [] → AreAllPlanted u q (0 ∷ []) parts v w

@@ -214,13 +214,6 @@ module _ (lines : List TreeLine) (k : ℕ) (line : TreeLine) (within : k < lengt
       not_there Memory (Ok x) m e = absurd e
       not_there Memory (Err told) m e = rw e tt
 
--- a refusal of memory says nothing of the lines
-pub no_memory : (p : ProblemValue) (worth : Option ℤ) (start : List Node) (lines : List Line)
-    (result : Result (Vec Part) GiveRefusal) → IsErrAnd result (λ told. told ≡ Memory)
-    → AreJudgedParts p worth start lines result
-no_memory p worth start lines (Ok x) e = absurd e
-no_memory p worth start lines (Err told) e = rw e tt
-
 still_open : (p : ProblemValue) (worth : Option ℤ) (nodes : List Node) → nodes ≢ [] → AreGrafts p worth [] nodes → ⊥
 still_open p worth [] n a = n refl
 still_open p worth (node ∷ nodes) n a = a

@@ -1,10 +1,10 @@
 -- All open leaves are lent: the nodes that wait with a value below the best cost.
-use Rattle.std.proofs.Common.{◌≡◌, ℕ, zero, suc, ◌+◌, ◌<◌, ◌≤◌, List, [], ◌∷◌, ◌++◌, length, get_or, drop, take, map, refl, sym, ap, ◌∙◌, arith, subst, append_assoc, append-nil, Bool, ◌⊎◌, inl, inr}
+use Rattle.std.proofs.Common.{◌≡◌, ℕ, zero, suc, ◌+◌, ◌<◌, ◌≤◌, List, [], ◌∷◌, ◌++◌, length, get_or, drop, map, refl, sym, ap, ◌∙◌, arith, subst, append_assoc, append-nil, Bool, ◌⊎◌, inl, inr}
 use Rattle.std.specs.Prelude.{◌↔◌, All, Contains, Option, Some, None, IsTrue, IsSome, IfSome, IfOk, IsErrAnd, Result, Ok, Err}
 use Rattle.std.specs.Global.{Vec}
 use Rattle.std.specs.List.Sorted.{IsPermutation}
 use Rattle.std.proofs.lemmas.Bool.{cases_lt}
-use Rattle.std.proofs.lemmas.List.{drop_all, drop_more, take_more, map-append, get_or_default, get_or_append_left, length-append, length-map}
+use Rattle.std.proofs.lemmas.List.{drop_all, drop_more, get_or_default, get_or_append_left, length-append, length-map}
 use Rattle.std.proofs.lemmas.List.Elements.{All-nil, All-cons, All-head, All-tail, All-contains, Contains-append_cases, Contains-append_left}
 use Rattle.std.proofs.lemmas.List.Sorted.{IsPermutation-refl, IsPermutation-sym, IsPermutation-trans, Contains-permutation, length_permutation}
 use Rattle.pesp_problem.specs.declared.cut.Cut.{Cut}
@@ -409,16 +409,3 @@ pub lends_told : (p : ProblemValue) (old new : State) (result : Result (Vec Job)
     → LendsAll p old result new
 lends_told p old new (Ok jobs) refusal e l = absurd e
 lends_told p old new (Err told) refusal e l = subst (λ (x : LendRefusal). LendsAll p old (Err x) new) (sym e) l
-
--- ---- the slots
-
--- one more node is noted
-pub noted_more : (slots before after : List Slot) (nodes : List ℕ) (k : ℕ) → k < length nodes
-    → before ≡ slots ++ map LentSlot (take k nodes) → after ≡ before ++ LentSlot (get_or nodes k 0) ∷ []
-    → after ≡ slots ++ map LentSlot (take (k + 1) nodes)
-noted_more slots before after nodes k within e f =
-    let one = LentSlot (get_or nodes k 0) ∷ [] in
-    let more : map LentSlot (take (k + 1) nodes) ≡ map LentSlot (take k nodes) ++ one =
-    ap (map LentSlot) (take_more nodes k 0 within) ∙ map-append LentSlot (take k nodes) (get_or nodes k 0 ∷ []) in
-    f ∙ ap (λ (x : List Slot). x ++ one) e ∙ append_assoc slots (map LentSlot (take k nodes)) one
-    ∙ ap (λ (x : List Slot). slots ++ x) (sym more)

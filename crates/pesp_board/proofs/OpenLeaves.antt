@@ -1,5 +1,5 @@
 -- The open leaves are those of the nodes that wait with a value below the best cost.
-use Rattle.std.proofs.Common.{◌≡◌, ◌≢◌, ℕ, ◌<◌, ◌≤◌, List, [], ◌∷◌, length, get_or, map, sym, ap, ◌∙◌, arith, subst, inl, inr, Bool, true}
+use Rattle.std.proofs.Common.{◌≡◌, ◌≢◌, ℕ, ◌+◌, ◌<◌, ◌≤◌, List, [], ◌∷◌, ◌++◌, length, get_or, map, refl, sym, ap, ◌∙◌, arith, subst, inl, inr, Bool, true}
 use Rattle.std.specs.Prelude.{◌↔◌, ℤ, pos, negsuc, All, Contains, Option, Some, None, option_map, nat_lt}
 use Rattle.std.specs.List.{filter, AllPairs}
 use Rattle.std.proofs.lemmas.Bool.{ltb-true, lt-ltb, both_ways, cond_both}
@@ -12,7 +12,7 @@ use Rattle.pesp_truth.specs.Trees.{Bound}
 use Rattle.pesp_nodes.specs.Problems.{ProblemValue}
 use Rattle.pesp_tree.specs.WorkTrees.{WorkTreeValue, path_to, leaf_at}
 use Rattle.pesp_tree.specs.declared.entry.Entry.{Entry}
-use Rattle.pesp_tree.specs.Entries.{entry, item_at, ItemsDiffer}
+use Rattle.pesp_tree.specs.Entries.{entry, entry_at, item_at, ItemsDiffer}
 use Rattle.pesp_tree.specs.Queues.{QueueValue, all_of}
 use Rattle.pesp_tree.specs.BoardLeaves.{told}
 use Rattle.pesp_tree.specs.States.{IsOpen}

@@ -1,12 +1,12 @@
 -- The parts are put at the nodes one after the other: what is left makes the same tree and the same entries.
 use Rattle.std.proofs.Common.{◌≡◌, ℕ, zero, suc, ◌+◌, ◌<◌, ◌≤◌, List, [], ◌∷◌, ◌++◌, length, reverse, refl, sym, ap, ◌∙◌, arith, subst, append_assoc, append-nil, true, inl, inr}
-use Rattle.std.specs.Prelude.{Option, Some, None, IsSome, Contains}
+use Rattle.std.specs.Prelude.{Option, Some, None, IsSome}
 use Rattle.std.specs.List.Sorted.{IsPermutation}
 use Rattle.std.proofs.lemmas.List.{length-set, length-reverse, reverse-append}
 use Rattle.std.proofs.lemmas.List.Sorted.{IsPermutation-refl, IsPermutation-trans, IsPermutation-append, IsPermutation-cons}
 use Rattle.pesp_truth.specs.Trees.{Line, EndLine, CutLine, are_trees}
 use Rattle.pesp_tree.specs.Leaves.{leaf_of}
-use Rattle.pesp_tree.specs.WorkTrees.{WorkTreeValue, IsWhole, leaf_at, opening_tree, with_room}
+use Rattle.pesp_tree.specs.WorkTrees.{WorkTreeValue, IsWhole, leaf_at, with_room}
 use Rattle.pesp_tree.specs.declared.entry.Entry.{Entry}
 use Rattle.pesp_tree.specs.Entries.{entry, HasItem}
 use Rattle.pesp_tree.specs.Queues.{QueueValue, all_of, KeepsRoom, QueueKeepsLimits}
@@ -14,7 +14,6 @@ use Rattle.pesp_board.specs.declared.part.Part.{Part}
 use Rattle.pesp_board.specs.declared.part.Part.TheVariants.{Cut as CutPart, Leaf as LeafPart}
 use Rattle.pesp_board.specs.Parts.{part_lines}
 use Rattle.pesp_board.specs.Growing.{waits, part_value, with_part, next, with_parts, news, HasRoomForPart, AreOthers, AreUnqueued, AreReady, IsPlanted}
-use Rattle.pesp_board.proofs.Queues.{none_held}
 use Rattle.pesp_board.proofs.Growing.{site_within, long_part, long_cut, next_sites, next_shape}
 use Rattle.pesp_board.proofs.Replacing.{IsWithout, IsWith, one_less, one_more, node_gone, still_fresh, with_held}
 
@@ -226,28 +225,6 @@ ready_once t u q r s node value parts whole some shape few beyond e room waiting
       few = omega (arith, long, few);
       numbers = omega (arith, long, numbers, keeps.0);
       room = omega (arith, less, same, free, keeps.1);
-    }
-
--- the parts of a whole tree can be put into an opening tree and an empty queue, once room was made
-pub ready_alone : (t u : WorkTreeValue) (r : QueueValue) (parts : List Part) → are_trees 1 (part_lines parts) ≡ true
-    → length parts ≤ 1000000 → t ≡ opening_tree → IsWhole t → u ≡ with_room t u.room → length parts ≤ u.room
-    → r.waiting ≡ [] → r.parked ≡ [] → length parts ≤ r.numbers → length parts ≤ r.room → AreReady u r (0 ∷ []) parts
-ready_alone t u r parts shape few first whole e lines waiting parked numbers room =
-    let is : u ≡ with_room opening_tree u.room = e ∙ ap (λ (x : WorkTreeValue). with_room x u.room) first in
-    let one : length u.leaves ≡ 1 = ap (λ (x : WorkTreeValue). length x.leaves) is in
-    let none : all_of r ≡ [] = (λ i. waiting i ++ parked i) in
-    let free : (item : ℕ) → HasItem (all_of r) item → ⊥ = λ item h.
-    none_held (entry item h.0) (subst (λ (xs : List Entry). Contains xs (entry item h.0)) none h.1) in
-    record {
-      shape = shape;
-      whole = subst IsWhole (sym e) (with_room_whole t u.room whole);
-      sites = (subst (λ (x : WorkTreeValue). IsSome (leaf_at x 0)) (sym is) refl, tt, tt);
-      fresh = (free 0, tt);
-      beyond = λ item past. free item;
-      lines = omega (arith, one, lines);
-      few = omega (arith, one, few);
-      numbers = omega (arith, one, numbers);
-      room = omega (arith, ap (λ (xs : List Entry). length xs) none, room);
     }
 
 pub planted_there : (t u v : WorkTreeValue) (q r s w : QueueValue) (node value : ℕ) (parts : List Part)

@@ -19,10 +19,6 @@ use Rattle.pesp_board.proofs.Slots.{ended, still_lent, recalled_is_not_lent, nod
 pub none_held : {X : Type 0} (x : X) → Contains [] x → ⊥
 none_held x h = absurd (omega (arith, h.1))
 
-pub no_items : {X : Type 0} (xs : List X) → length xs ≡ 0 → xs ≡ []
-no_items [] e = refl
-no_items (x ∷ xs) e = absurd (omega (arith, e))
-
 pub one_held : {X : Type 0} (x y : X) → Contains (y ∷ []) x → y ≡ x
 one_held x y (zero, l, e) = e
 one_held x y (suc k, l, e) = absurd (omega (arith, l))

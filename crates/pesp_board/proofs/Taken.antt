@@ -1,6 +1,6 @@
 -- The lines of a valid certificate's tree keep their limits, and the parts that they make are valued rightly.
 use Rattle.std.proofs.Common.{◌≡◌, ◌≢◌, ℕ, zero, suc, ◌+◌, ◌<◌, ◌≤◌, List, [], ◌∷◌, ◌++◌, length, get_or, drop, map, refl, sym, ap, ◌∙◌, arith, subst, append_assoc, append-nil, true}
-use Rattle.std.specs.Prelude.{ℤ, unsigned_abs, All, Option, nat_le}
+use Rattle.std.specs.Prelude.{ℤ, unsigned_abs, All, Option, nat_le, None}
 use Rattle.std.specs.List.{list_all}
 use Rattle.std.proofs.lemmas.Bool.Decides.{nat_tests}
 use Rattle.std.proofs.lemmas.List.{drop_all, drop_more, length-map}

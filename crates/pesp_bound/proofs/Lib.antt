@@ -4,4 +4,3 @@ pub mod Levels
 pub mod Circulations
 pub mod Gathering
 pub mod Systems
-pub mod Kept

@@ -7,7 +7,7 @@ use Rattle.std.proofs.lemmas.List.{length-replicate, drop-append-le, length-appe
 use Rattle.std.proofs.Math.Nat.{mul-le-mul_left}
 use Rattle.std.proofs.lemmas.Bool.Decides.{nat_tests}
 use Rattle.pesp_bound.specs.declared.edge.Edge.{Edge}
-use Rattle.pesp_bound.specs.Settling.{edge_at, at, EdgesAreWithin, SettlesEdge, AreSettled, GainsForEver, IsEdgeWay, gains, losses}
+use Rattle.pesp_bound.specs.Settling.{edge_at, at, EdgesAreWithin, SettlesEdge, GainsForEver, IsEdgeWay, gains, losses}
 use Rattle.pesp_bound.specs.Growing.{LevelsGrown, LevelsAreGrown}
 
 eq-true : (a b : ℕ) → a ≡ b → (a == b) ≡ true
@@ -397,14 +397,6 @@ pub so_far_stays : (edges : List Edge) (initial old new : List ℕ) (last : Opti
     → SoFar edges initial old last k → new ≡ old → SettlesEdge edges (at old) k → SoFar edges initial new last (k + 1)
 so_far_stays edges initial old new last k h e s =
     subst (λ (x : List ℕ). SoFar edges initial x last (k + 1)) (sym e) (so_far_same edges initial old last k h s)
-
--- after all edges
-pub so_far_ends : (edges : List Edge) (initial new : List ℕ) (last : Option ℕ) (k limit : ℕ) → length edges ≤ k
-    → ((x : ℕ) → at new x ≤ limit) → SoFar edges initial new last k
-    → MatchOption last (AreSettled edges (at new))
-    (λ e. (e < length initial) × (sum initial < sum new) × ((x : ℕ) → x ≢ e → at new x ≤ limit))
-so_far_ends edges initial new None k limit end low s = λ j l. s.1 j (omega (arith, l, end))
-so_far_ends edges initial new (Some e) k limit end low s = (s.0, s.1, λ x ne. low x)
 
 pub low_but : (old new : List ℕ) (limit start x : ℕ) → ((x : ℕ) → at old x ≤ limit)
     → ((x : ℕ) → x ≢ start → at new x ≡ at old x) → at new start ≤ limit → at new x ≤ limit

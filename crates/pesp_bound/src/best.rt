@@ -7,8 +7,8 @@ ghost use Rattle.pesp_bound.specs.Decided.{IsDecided, IsNothing};
 ghost use Rattle.pesp_nodes.specs.Problems.{problem_net, IsNodeOf, ArePairs, Rise};
 
 use crate::leaf::Leaf;
+use crate::proposal::{LeafProposal, propose};
 use crate::system::closing_pairs;
-use pesp_leaf_proposals::{LeafProposal, propose};
 use pesp_nodes::{Node, Problem, are_pairs, first_gap, leaf_value};
 use pesp_problem::{Memory, Pair, Pairs};
 use std::alloc::Global;

@@ -8,6 +8,7 @@ mod differences;
 mod edge;
 mod leaf;
 mod passes;
+mod proposal;
 mod shifts;
 mod system;
 

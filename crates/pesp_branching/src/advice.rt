@@ -1,8 +1,8 @@
 //! What is proposed for a leaf.
 
 use crate::settings::NARROWED_JOBS;
+use crate::slack_cut::{Narrowing, narrow};
 use pesp_board::{Board, Job};
-use pesp_leaf_proposals::{Narrowing, narrow};
 use pesp_nodes::Node;
 use pesp_problem::Memory;
 use pesp_reduce::Reduced;

@@ -11,7 +11,7 @@ ghost use Rattle.pesp_branching.specs.Settled.{IsSettled};
 ghost use Rattle.pesp_branching.specs.Passing.{ArePassedRows};
 
 use crate::advice::Proposal;
-use pesp_leaf_proposals::Narrowing;
+use crate::slack_cut::Narrowing;
 use pesp_nodes::{Node, Problem};
 use pesp_problem::Cut;
 use pesp_strategy::{PartPairs, Split};

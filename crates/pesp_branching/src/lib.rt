@@ -14,6 +14,7 @@ mod part_leaf;
 mod passes;
 pub mod room;
 mod settings;
+mod slack_cut;
 pub mod turn;
 
 pub use advice::{Advised, Proposal, ask};
@@ -22,4 +23,4 @@ pub use expansion::{expand, leaf_line, proposed_lines};
 pub use offers::{offer_met, offer_times};
 pub use part_leaf::gap_at;
 pub use passes::passed_rows;
-pub use pesp_leaf_proposals::Narrowing;
+pub use slack_cut::Narrowing;

@@ -138,11 +138,3 @@ cycles_ended c k e = elim (next_of Cycle c.cycles k (tree_from c 0) End [] e) [
 pub no_lemma : (o : Option LemmaJudge) → is_some o ≡ false → option_map kept_lemma o ≡ None
 no_lemma None e = refl
 no_lemma (Some l) e = absurd cc
-
--- no more than one line more
-pub few_more : (n m : ℕ) → n ≤ m → n ≤ m + 1
-few_more n m h = omega arith
-
--- nor where one comes at the same time
-pub few_added : (n k m : ℕ) → n ≤ k + 1 → k ≤ m → n ≤ m + 1
-few_added n k m h l = omega arith

@@ -56,21 +56,6 @@ revised_is t n arc range xs ys ws now tail head e f r c =
 pub row_fits : (x n w len : ℕ) → x < n → len ≡ n * w → x * w + w ≤ len
 row_fits x n w len h e = omega (arith, mul-le-mul_left w h)
 
--- all words are few
-pub words_few : (n t len : ℕ) → n ≤ 100000 → t ≤ 10000 → len ≡ n * width_of t → len ≤ 100000000
-words_few n t len ln lt e =
-    let most = mul-le-mul_left (width_of t) ln in
-    let width : width_of t ≤ 157 = omega (arith, lt) in
-    omega (arith, most, width, e)
-
--- room for one set, and for two
-pub room_of : (t w a b : ℕ) → t ≤ 10000 → w ≡ width_of t → a ≡ w → b ≡ 2 * w → HasScratchRoom t a b
-room_of t w a b l e once both = record {
-  once = once ∙ e;
-  twice = omega (arith, e, both);
-  few = omega (arith, e, both, l);
-}
-
 -- past the events no bit is set
 pub empty_past : (w n event : ℕ) (words : List ℕ) → length words ≡ n * w → n ≤ event → (d : ℕ) → bit (set_of w words event) d ≡ 0
 empty_past w n event words long l d =

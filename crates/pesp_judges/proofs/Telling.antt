@@ -1,17 +1,13 @@
 -- What the lines of a lemma that came say of it, as the next one comes.
-use Rattle.std.proofs.Common.{◌≡◌, ◌≢◌, inl, inr, ℕ, ◌+◌, ◌<◌, ◌≤◌, arith, refl, ap, sym, subst, ◌∙◌, List, [], ◌∷◌, ◌++◌, length, get_or, map, take, drop, Option, Some, None, true, false}
+use Rattle.std.proofs.Common.{◌≡◌, ◌≢◌, inl, inr, ℕ, ◌+◌, ◌<◌, ◌≤◌, arith, refl, ap, sym, subst, ◌∙◌, List, [], ◌∷◌, ◌++◌, length, get_or, map, Option, Some, None, true, false}
 use Rattle.std.specs.Prelude.{is_some, All}
-use Rattle.std.proofs.lemmas.List.{get_or_default, length-take, take_all, take_at}
-use Rattle.std.proofs.lemmas.Option.{same_Some}
+use Rattle.std.proofs.lemmas.List.{get_or_default, length-take, take_all}
 use Rattle.pesp_problem.specs.declared.row.SignedRow.{SignedRow}
 use Rattle.pesp_problem.specs.Timetables.{Pesp}
 use Rattle.pesp_problem.specs.Arcs.{arcs_of, net_of}
 use Rattle.pesp_problem.specs.declared.arc.Arc.{Arc}
 use Rattle.pesp_problem.specs.Walks.{RowExists, IsWalk}
 use Rattle.pesp_leaves.proofs.Summing.{rows_exist}
-use Rattle.pesp_leaves.specs.declared.checker.Shown.{Shown}
-use Rattle.pesp_leaves.specs.declared.checker.Claim.TheVariants.{Behind as TellsBehind}
-use Rattle.pesp_leaves.specs.Claims.{FitsShown}
 use Rattle.pesp_problem.specs.Nodes.{Node, root, cycle_at}
 use Rattle.pesp_problem.specs.declared.marked.MarkedRow.{MarkedRow}
 use Rattle.pesp_problem.specs.declared.nets.NetCount.{NetCount}
@@ -248,19 +244,3 @@ lemma_whole p earlier s at kept k limits all (inr h) =
       l.weights,
       l.least,
     )
-
--- what fits, where it is told
-pub fits_told : (p : Pesp) (t s : Shown) → TellsBehind t ≡ TellsBehind s → FitsShown p t → FitsShown p s
-fits_told p t s e f = let is : t ≡ s = cc in subst (FitsShown p) is f
-
--- the walk that stands there
-pub standing_of : (p : Pesp) (n : ℕ) (w x : Standing) → Some w ≡ Some x → w.problem ≡ p → w.cycles ≡ n
-    → (x.problem ≡ p) × (x.cycles ≡ n)
-standing_of p n w x e h k =
-    let is : x ≡ w = sym (same_Some w x e) in
-    (ap (λ (s : Standing). s.problem) is ∙ h, ap (λ (s : Standing). s.cycles) is ∙ k)
-
--- a vector is as long after it was written
-pub written_long : {A : Type 0} (n : ℕ) (new old : List A) → n ≡ length old → length new ≡ length old
-    → length (take n (new ++ drop (length new) old)) ≡ length old
-written_long n new old e l = ap length (take_at new (drop (length new) old) n (l ∙ sym e)) ∙ l

@@ -4,7 +4,7 @@ use Rattle.std.specs.Prelude.{ℤ, pos, negsuc, ◌+ℤ◌, ◌*ℤ◌, ◌<ℤ�
 use Rattle.std.proofs.lemmas.Int.{ints, unsigned_abs-mul}
 use Rattle.std.proofs.Math.Nat.{mul-le-mul}
 use Rattle.std.proofs.lemmas.Bool.{cases_eq, eq-eqb, ne_eqb}
-use Rattle.std.proofs.lemmas.List.{get_or_default, get_or-set_same, get_or-set_other, length-set, drop_all, drop_more}
+use Rattle.std.proofs.lemmas.List.{get_or-set_same, get_or-set_other, length-set, drop_all, drop_more}
 use Rattle.pesp_problem.specs.declared.pair.Pair.{Pair}
 use Rattle.pesp_problem.proofs.Integers.{mul-add}
 use Rattle.pesp_problem.specs.Terms.{number_at, AreSmallFlows}
@@ -211,13 +211,3 @@ module _ (others : ℕ) (facts : List Lemma) (pairs left : List Pair) (initial :
 
   pub flows_small : AreFlowsWith 100000 flows
   flows_small i l = omega (arith, h.small i l)
-
--- the lemma that is read
-pub lemma_read : (facts : List Lemma) (k : ℕ) (d : Lemma) → k < length facts → d ≡ get_or facts k d
-    → d ≡ lemma_at facts k
-lemma_read facts k d l is = is ∙ get_or_default facts k d _ l
-
--- the place of a lemma that is named
-pub lemma_place : (others number : ℕ) (pair : Pair) → IsNamed others number pair → others < pair.cycle
-    → pair.cycle - others - 1 < number
-lemma_place others number pair named above = let names = named.0 in omega (arith, names, above)

@@ -1,6 +1,5 @@
 -- Flows as they are added up, pair by pair.
-use Rattle.std.proofs.Common.{◌≡◌, ℕ, ◌+◌, ◌-◌, ◌*◌, ◌^◌, ◌<◌, ◌≤◌, arith, refl, ap, sym, ◌∙◌, List, [], ◌∷◌}
-use Rattle.std.proofs.Common.{length, get_or, fold, subst, Bool, true, false}
+use Rattle.std.proofs.Common.{◌≡◌, ℕ, ◌+◌, ◌-◌, ◌*◌, ◌^◌, ◌<◌, ◌≤◌, arith, refl, ap, sym, ◌∙◌, List, [], ◌∷◌, length, fold, subst, Bool, true, false}
 use Rattle.std.specs.Prelude.{ℤ, pos, ◌+ℤ◌, ◌*ℤ◌, unsigned_abs, if◌then◌else◌, ◌==◌, count_by, cond, All, ◌↔◌}
 use Rattle.std.proofs.lemmas.Int.{ints}
 use Rattle.std.proofs.lemmas.List.Elements.{All-cons, All-head, All-tail}
@@ -10,7 +9,7 @@ use Rattle.pesp_problem.specs.declared.row.SignedRow.{SignedRow}
 use Rattle.pesp_problem.specs.declared.pair.Pair.{Pair}
 use Rattle.pesp_problem.specs.Walks.{Names, net_count}
 use Rattle.pesp_problem.specs.Nodes.{flow, cycle_at}
-use Rattle.pesp_problem.specs.Nets.{count_of, nets_at, AreNets, AreSmallCounts}
+use Rattle.pesp_problem.specs.Nets.{count_of, nets_at, AreNets}
 use Rattle.pesp_problem.specs.Terms.{number_at}
 use Rattle.pesp_problem.proofs.Flowing.{count_is}
 use Rattle.pesp_leaves.specs.Flows.{entries_at, ArePairsOf}
@@ -44,21 +43,6 @@ pairs_apart cycles left rest p is are =
     let Q : Pair → Type 0 = λ pair. Names cycles pair.cycle × (unsigned_abs pair.mult ≤ 1000000000000) in
     let both = subst P is are in
     (All-head Q p rest both.0, (All-tail Q p rest both.0, omega (arith, both.1)))
-
--- the place in the table of the first that is left
-pub place_here : (cycles : ℕ) (left rest : List Pair) (p : Pair) → left ≡ p ∷ rest → ArePairsOf cycles left
-    → p.cycle - 1 < cycles
-place_here cycles left rest p is are =
-    let exists = (pairs_apart cycles left rest p is are).0.0 in omega (arith, exists)
-
--- the entries as the code reads them are small, for flows that are as long
-pub counts_read : (n m : ℕ) (table : List (List NetCount)) (at : ℕ) (read counts : List NetCount)
-    → All (AreSmallCounts n) table → at < length table → read ≡ get_or table at read → counts ≡ read → m ≡ n →
-    AreSmallCounts m counts
-counts_read n m table at read counts small l is e long =
-    let P : List NetCount → Type 0 = AreSmallCounts m in
-    let Q : ℕ → Type 0 = λ k. AreSmallCounts k (get_or table at read) in
-    subst P (sym (e ∙ is)) (subst Q (sym long) (small at read l))
 
 -- whether all the others are tells whether all are
 pub exist_more : {X : Type 0} (P : X → Type 0) (left rest : List X) (x : X) (Q : Type 0) → left ≡ x ∷ rest → P x

@@ -1,5 +1,5 @@
 -- Pairs that are gone through one by one.
-use Rattle.std.proofs.Common.{◌≡◌, inl, inr, ℕ, ◌-◌, ◌<◌, ◌≤◌, arith, ap, refl, List, [], ◌∷◌, length, true, subst}
+use Rattle.std.proofs.Common.{◌≡◌, inl, inr, ℕ, ◌<◌, ◌≤◌, arith, ap, refl, List, [], ◌∷◌, length, true, subst}
 use Rattle.std.specs.Prelude.{All, unsigned_abs, ◌↔◌}
 use Rattle.std.proofs.lemmas.List.Elements.{All-nil, All-cons, All-head, All-tail}
 use Rattle.pesp_problem.specs.declared.pair.Pair.{Pair}
@@ -8,18 +8,6 @@ use Rattle.pesp_leaves.specs.Flows.{ArePairLimits}
 use Rattle.pesp_leaves.specs.Flows.{ArePairsOf}
 use Rattle.pesp_truth.specs.Named.{IsNamed, AreNamed, of_cycles, names_more}
 use Rattle.pesp_truth.proofs.Named.{at_most}
-
--- a place in a list is one in another that is as long
-pub place_as : (i : ℕ) {m n : ℕ} → m ≡ n → i < m → i < n
-place_as i {m} {n} e l = let P : ℕ → Type 0 = λ n. i < n in subst P e l
-
--- one fewer is left
-pub fewer_left : {X : Type 0} (left rest : List X) (x : X) → left ≡ x ∷ rest → length rest < length left
-fewer_left left rest x is = let e = ap length is in omega (arith, e)
-
--- the place of what is named
-pub place_named : (n m k : ℕ) → Names n k → m ≡ n → k - 1 < m
-place_named n m k names e = omega (arith, names, e)
 
 module _ (cycles : ℕ) (left rest : List Pair) (pair : Pair) (is : left ≡ pair ∷ rest) where
   -- the pair names a cycle

@@ -13,7 +13,7 @@ use Rattle.pesp_problem.specs.Arcs.{Net, arc_of, arcs_of, net_of}
 use Rattle.pesp_problem.specs.Walks.{AreRows, IsWalk, RowExists}
 use Rattle.pesp_leaves.specs.Flows.{ArePairLimits}
 use Rattle.pesp_problem.specs.declared.marked.MarkedRow.{MarkedRow}
-use Rattle.pesp_problem.specs.Marked.{signed_rows, IsMarkedWalk, least_gain, rates_at as walk_rates}
+use Rattle.pesp_problem.specs.Marked.{signed_rows, IsMarkedWalk, rates_at as walk_rates}
 use Rattle.pesp_problem.specs.Sharp.{over_multiples}
 use Rattle.pesp_truth.specs.Named.{IsNamed, AreNamed, walk_at, of_walks}
 use Rattle.pesp_truth.proofs.Named.{at_most}
@@ -97,18 +97,6 @@ small_arcs p keeps = record {
 }
 
 -- ---- pair by pair
-
-pub walk_gained : (p : Pesp) (slacks : List (ℕ × ℕ)) (cycles : ℕ) (walks : List (List MarkedRow)) (pair : Pair)
-    (rows : List MarkedRow) (period : ℕ) (arcs : List Arc) → cycles < pair.cycle → pos 0 <ℤ pair.mult
-    → rows ≡ walk_at walks (pair.cycle - cycles - 1) → period ≡ p.period → arcs ≡ arcs_of p
-    → pair.mult *ℤ pos (least_gain (record { period = period; arcs = arcs }) slacks rows)
-    ≡ gains_of (net_of p) slacks cycles walks (pair ∷ [])
-walk_gained p slacks cycles walks pair rows period arcs h above r e f =
-    let G : ℕ → List Arc → List MarkedRow → ℤ = λ t a w. pair.mult *ℤ pos (least_gain (record { period = t; arcs = a })
-    slacks w) in
-    ap (λ (t : ℕ). G t arcs rows) e ∙ ap (λ (a : List Arc). G p.period a rows) f
-    ∙ ap (λ (w : List MarkedRow). G p.period (arcs_of p) w) r ∙ sym (over_one cycles walks pair
-    (λ walk. pos (least_gain (net_of p) slacks walk)) h above)
 
 pub record AreSummed (n : Net) (slacks : List (ℕ × ℕ)) (cycles : ℕ) (walks : List (List MarkedRow))
     (pairs left : List Pair) (gains : ℤ) (rates : List Rates) : Type 0 where

@@ -1,6 +1,5 @@
 //! A tree over the offsets that are left to cycles: its knots, the cuts that there are at a point, what cuts have gained so far,
-//! which of several gains most on trial, what its leaves and lines tell, and what searches it. Nothing is promised of it but that
-//! all is found safely.
+//! which of several gains most on trial, and what its leaves and lines tell. Nothing is promised of it but that all is found safely.
 #![tactic(auto)]
 
 mod cuts;
@@ -8,7 +7,6 @@ mod experience;
 mod leaves;
 mod lines;
 mod proposals;
-mod search;
 mod shape;
 mod sharpened;
 mod tree;
@@ -19,7 +17,6 @@ pub use experience::PseudoCosts;
 pub use leaves::leaf_of;
 pub use lines::{bound_of, told};
 pub use proposals::times_near;
-pub use search::{Step, TreeSearch};
 pub use shape::Shape;
 pub use sharpened::{LeafMultipliers, SharpLine, Sharpened};
 pub use tree::{Knot, SharpTree};

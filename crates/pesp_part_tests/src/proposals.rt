@@ -5,10 +5,10 @@ use crate::networks::tell_kept;
 use crate::rows::ranges_of;
 use crate::spelling::tell_list;
 use crate::words::look_up;
-use pesp_forest_search::search_forest;
 use pesp_network::Network;
 use pesp_propagate::dive_to;
 use pesp_strategy::{Advice, Strategy};
+use pesp_timetables::search_forest;
 use std::alloc::Global;
 
 /// What is asked of proposals.

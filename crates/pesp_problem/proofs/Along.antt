@@ -1,12 +1,10 @@
 -- Sums along a walk as they are added up: what was added, and what is left.
-use Rattle.std.proofs.Common.{◌≡◌, ℕ, ◌+◌, ◌*◌, ◌<◌, ◌≤◌, List, length, get_or, drop, ap, ◌∙◌, subst, arith, to_z, of_z}
+use Rattle.std.proofs.Common.{◌≡◌, ℕ, ◌+◌, ◌*◌, ◌<◌, ◌≤◌, List, length, get_or, drop, ap, arith}
 use Rattle.std.specs.Prelude.{ℤ, pos, ◌+ℤ◌, unsigned_abs}
-use Rattle.std.specs.Int.{w128}
 use Rattle.std.proofs.lemmas.Int.{ints}
 use Rattle.std.proofs.lemmas.List.{drop_all, drop_more}
 use Rattle.pesp_problem.specs.declared.marked.MarkedRow.{MarkedRow}
 use Rattle.pesp_problem.specs.Marked.{walk_sum}
-use Rattle.pesp_problem.proofs.Kept.{kept}
 
 -- the rows from the k-th on
 pub along_more : (walk : List MarkedRow) (k : ℕ) (d : MarkedRow) (term : MarkedRow → ℤ) → k < length walk
@@ -31,26 +29,3 @@ added_more most walk term k d sum next l small e before = record {
   is = let apart = along_more walk k d term l in omega (arith, ints, before.is);
   size = omega (arith, ints, before.size);
 }
-
--- one more is added, and the sum is kept
-pub added_kept : (walk : List MarkedRow) (term : MarkedRow → ℤ) (k : ℕ) (d : MarkedRow) (sum z next : ℤ)
-    → k < length walk → length walk ≤ 10000000 → z ≡ term (get_or walk k d) → unsigned_abs z ≤ 1030000
-    → next ≡ sum +ℤ to_z w128 (of_z w128 z) → IsAdded 1030000 walk term k sum
-    → IsAdded 1030000 walk term (k + 1) (to_z w128 (of_z w128 next))
-added_kept walk term k d sum z next l few is small e before =
-    let same : to_z w128 (of_z w128 z) ≡ z = kept z 1030000 small (omega arith) in
-    let next_is : next ≡ sum +ℤ z = e ∙ ap (λ (u : ℤ). sum +ℤ u) same in
-    let size = before.size in
-    let fits : unsigned_abs next ≤ 20000000000000 = omega (arith, ints, next_is, size, small, l, few) in
-    rw (kept next 20000000000000 fits (omega arith)) (added_more 1030000 walk term k d sum next l
-    (subst (λ (u : ℤ). unsigned_abs u ≤ 1030000) is small) (next_is ∙ ap (λ (u : ℤ). sum +ℤ u) is) before)
-
--- all are added
-pub added_all : (walk : List MarkedRow) (term : MarkedRow → ℤ) (k : ℕ) (sum : ℤ) → length walk ≤ k → k ≤ length walk
-    → length walk ≤ 10000000 → IsAdded 1030000 walk term k sum
-    → (sum ≡ walk_sum walk term) × (unsigned_abs sum ≤ 10000000 * 1030000)
-added_all walk term k sum done within few before =
-    let none = along_done walk k term done in
-    let size = before.size in
-    let is = before.is in
-    (omega (arith, ints, none, is), omega (arith, size, within, few))

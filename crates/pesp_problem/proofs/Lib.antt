@@ -32,4 +32,3 @@ pub mod Along
 pub mod Passes
 pub mod Small
 pub mod Flowing
-pub mod Kept

@@ -14,4 +14,3 @@ pub mod Tallying
 pub mod Listing
 pub mod Climbing
 pub mod Judging
-pub mod Laying

@@ -2,7 +2,6 @@
 
 use crate::region_search::RegionSearch;
 use pesp_network::Network;
-use pesp_offset_tree::TreeSearch;
 use pesp_partition::{Division, Multiplied, Region, Units, Weights, WholeNetwork};
 use pesp_problem::Memory;
 use std::alloc::{AllocError, Global};
@@ -10,8 +9,8 @@ use std::alloc::{AllocError, Global};
 /// A region with its search, and the regions inside it. The extra is added to the sum of their bounds: what inequalities inside
 /// it show that cross them, and what rows outside of them take.
 #[derive(Drop)]
-pub(crate) struct Nested<T> {
-    pub(crate) search: RegionSearch<T>,
+pub(crate) struct Nested {
+    pub(crate) search: RegionSearch,
     pub(crate) inner: Vec<u32>,
     pub(crate) extra: i128,
 }
@@ -33,8 +32,8 @@ pub(crate) struct Level<'a> {
 
 /// Nested regions: all of them, and the number among them of each region of the coarsest division so far.
 #[derive(Drop)]
-pub(crate) struct Nesting<T> {
-    pub(crate) all: Vec<Nested<T>>,
+pub(crate) struct Nesting {
+    pub(crate) all: Vec<Nested>,
     pub(crate) outer: Vec<u32>,
 }
 
@@ -156,12 +155,12 @@ fn size_of(division: &Division, region: u32) -> u32 {
 }
 
 /// The search of a region; None where it is no network.
-fn search_of<T: TreeSearch>(
+fn search_of(
     alloc: Global,
     parted: Parted<'_>,
     level: &Level<'_>,
     region: u32,
-) -> Result<Option<RegionSearch<T>>, Memory> {
+) -> Result<Option<RegionSearch>, Memory> {
     let whole = WholeNetwork {
         network: parted.network,
         division: level.division,
@@ -174,9 +173,9 @@ fn search_of<T: TreeSearch>(
     }
 }
 
-impl<T: TreeSearch> Nesting<T> {
+impl Nesting {
     /// No region yet.
-    pub(crate) fn new(alloc: Global) -> Nesting<T> {
+    pub(crate) fn new(alloc: Global) -> Nesting {
         Nesting {
             all: Vec::new(alloc),
             outer: Vec::new(alloc),

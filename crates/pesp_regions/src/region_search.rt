@@ -1,9 +1,10 @@
 //! The search of a region: a tree of its own, which finds its least timetable or bounds it.
 
 use pesp_network::Network;
-use pesp_offset_tree::{Sharpened, Step, TreeSearch};
+use pesp_offset_tree::Sharpened;
 use pesp_partition::Region;
 use pesp_problem::Memory;
+use pesp_sharpening::{Sharpening, Step};
 use std::alloc::Global;
 use std::mem::replace;
 
@@ -21,9 +22,9 @@ const HEADROOM: u64 = 8;
 
 /// A region with its tree and its root's bound, and the least known cost of its timetables.
 #[derive(Drop)]
-pub(crate) struct RegionSearch<T> {
+pub(crate) struct RegionSearch {
     pub(crate) region: Region,
-    tree: Box<T>,
+    sharpening: Box<Sharpening>,
     unit: u32,
     best: Option<u64>,
     /// The times of the least known cost, where the tree met with them and nobody has taken them yet.
@@ -34,18 +35,18 @@ pub(crate) struct RegionSearch<T> {
 }
 
 /// The tree of a network whose weights are in units of which so many make up one.
-fn tree_of<T: TreeSearch>(alloc: Global, network: &Network, unit: u32) -> Result<Box<T>, Memory> {
-    let tree = T::in_units(alloc, network, SEED, SCALE, unit)?;
-    Ok(Box::new(alloc, tree)?)
+fn sharpening_of(alloc: Global, network: &Network, unit: u32) -> Result<Box<Sharpening>, Memory> {
+    let sharpening = Sharpening::in_units(alloc, network, SEED, SCALE, unit)?;
+    Ok(Box::new(alloc, sharpening)?)
 }
 
-impl<T: TreeSearch> RegionSearch<T> {
+impl RegionSearch {
     /// A region whose weights are in units of which so many make up one.
-    pub(crate) fn new(alloc: Global, region: Region, unit: u32) -> Result<RegionSearch<T>, Memory> {
-        match tree_of(alloc, &region.network, unit) {
-            Ok(tree) => Ok(RegionSearch {
+    pub(crate) fn new(alloc: Global, region: Region, unit: u32) -> Result<RegionSearch, Memory> {
+        match sharpening_of(alloc, &region.network, unit) {
+            Ok(sharpening) => Ok(RegionSearch {
                 region,
-                tree,
+                sharpening,
                 unit,
                 best: None,
                 found: None,
@@ -83,8 +84,8 @@ impl<T: TreeSearch> RegionSearch<T> {
 
     /// Notes the times that were met.
     fn note_met(&mut self, alloc: Global) -> Result<(), Memory> {
-        for place in 0..self.tree.times_met().len() {
-            let Some(met) = self.tree.times_met().get(place) else {
+        for place in 0..self.sharpening.times_met().len() {
+            let Some(met) = self.sharpening.times_met().get(place) else {
                 return Ok(());
             };
             let times = Vec::from_slice(alloc, met)?;
@@ -117,8 +118,8 @@ impl<T: TreeSearch> RegionSearch<T> {
     fn begin(&mut self, alloc: Global) -> Result<(), Memory> {
         self.is_begun = true;
         let best = self.best;
-        self.tree.look_at_root_from(&self.region.walks, best)?;
-        self.root = self.tree.bound();
+        self.sharpening.look_at_root_from(&self.region.walks, best)?;
+        self.root = self.sharpening.bound();
         self.note_met(alloc)
     }
 
@@ -128,7 +129,7 @@ impl<T: TreeSearch> RegionSearch<T> {
             return self.begin(alloc);
         }
         let limit = self.limit();
-        if self.tree.step(Some(limit))? == Step::Over {
+        if self.sharpening.step(Some(limit))? == Step::Over {
             self.is_over = true;
             return Ok(());
         }
@@ -147,32 +148,32 @@ impl<T: TreeSearch> RegionSearch<T> {
 
     /// What no timetable of the region costs less than, in units, and no more than the least known cost.
     pub(crate) fn bound(&self) -> u64 {
-        let bound = self.tree.bound();
+        let bound = self.sharpening.bound();
         bound.min(self.best.unwrap_or(bound))
     }
 
     /// What the tree shows, in units.
     pub(crate) fn shown(&self) -> u64 {
-        self.tree.bound()
+        self.sharpening.bound()
     }
 
     /// How much work was done.
     pub(crate) fn work(&self) -> u64 {
-        self.tree.work()
+        self.sharpening.work()
     }
 
     /// How many lines, pairs and passes of walks are told of the tree.
     pub(crate) fn size(&self) -> usize {
-        self.tree.size()
+        self.sharpening.size()
     }
 
     /// What is told of the tree.
     pub(crate) fn sharpened(&self) -> Result<Sharpened, Memory> {
-        self.tree.sharpened()
+        self.sharpening.sharpened()
     }
 
     /// The scale of the tree's leaves.
     pub(crate) fn scale(&self) -> u32 {
-        self.tree.scale()
+        self.sharpening.scale()
     }
 }

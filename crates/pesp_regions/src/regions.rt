@@ -6,7 +6,7 @@ use crate::region_search::RegionSearch;
 use crate::selection::{Worth, selected, worths_of};
 use crate::sharing::{share_of, size_of, with_inner};
 use pesp_network::Network;
-use pesp_offset_tree::{Sharpened, TreeSearch};
+use pesp_offset_tree::Sharpened;
 use pesp_partition::{
     Crossing, Division, Multiplied, ToldRegion, ToldRegions, Units, divisions_of, inequalities_of,
     shift_multipliers, units_for,
@@ -17,9 +17,9 @@ use std::alloc::{AllocError, Global};
 /// Nested regions, and which of them aren't inside another one. What is outside of these is added to their bounds. The
 /// inequalities are those of the root.
 #[derive(Drop)]
-pub struct Regions<T> {
+pub struct Regions {
     alloc: Global,
-    nested: Vec<Nested<T>>,
+    nested: Vec<Nested>,
     outer: Vec<u32>,
     outside: i128,
     inequalities: Vec<Multiplied>,
@@ -32,8 +32,8 @@ const MOST_SIZE: usize = 16_000_000;
 
 /// Nested regions, what is to be added to the bounds of the outer ones, and the units.
 #[derive(Drop)]
-struct NestedRegions<T> {
-    nesting: Nesting<T>,
+struct NestedRegions {
+    nesting: Nesting,
     outside: i128,
     units: Units,
 }
@@ -49,11 +49,11 @@ fn outside_of(alloc: Global, parted: Parted<'_>, last: &Option<Level<'_>>) -> Re
 
 /// Puts in the regions of divisions, those of the finest first; what is to be added to the bounds of the outer ones. None where
 /// one is no network.
-fn nest<T: TreeSearch>(
+fn nest(
     alloc: Global,
     parted: Parted<'_>,
     divisions: &[Division],
-    nesting: &mut Nesting<T>,
+    nesting: &mut Nesting,
 ) -> Result<Option<i128>, Memory> {
     let mut last: Option<Level<'_>> = None;
     for division in divisions {
@@ -67,11 +67,11 @@ fn nest<T: TreeSearch>(
 }
 
 /// Nested regions of divisions, in these units; None where one is no network.
-fn nested_of<T: TreeSearch>(
+fn nested_of(
     alloc: Global,
     parted: Parted<'_>,
     divisions: &[Division],
-) -> Result<Option<NestedRegions<T>>, Memory> {
+) -> Result<Option<NestedRegions>, Memory> {
     let mut nesting = Nesting::new(alloc);
     match nest(alloc, parted, divisions, &mut nesting) {
         Ok(Some(outside)) => Ok(Some(NestedRegions {
@@ -91,13 +91,13 @@ fn nested_of<T: TreeSearch>(
 }
 
 /// The regions of divisions; None where one is no network.
-fn divided<T: TreeSearch>(
+fn divided(
     alloc: Global,
     network: &Network,
     divisions: &[Division],
     inequalities: &[Multiplied],
     scale: u32,
-) -> Result<Option<NestedRegions<T>>, Memory> {
+) -> Result<Option<NestedRegions>, Memory> {
     let units = units_for(alloc, network.rows(), divisions, inequalities, scale)?;
     let parted = Parted {
         network,
@@ -108,14 +108,14 @@ fn divided<T: TreeSearch>(
 }
 
 /// The regions of divisions by multipliers that are sought anew; None where there are no two regions.
-fn shifted<T: TreeSearch>(
+fn shifted(
     alloc: Global,
     network: &Network,
     divisions: &[Division],
     inequalities: &mut [Multiplied],
     slacks: &[i64],
     scale: u32,
-) -> Result<Option<NestedRegions<T>>, Memory> {
+) -> Result<Option<NestedRegions>, Memory> {
     if divisions.first().map_or(0, |division| division.count()) < 2 {
         return Ok(None);
     }
@@ -124,7 +124,7 @@ fn shifted<T: TreeSearch>(
 }
 
 /// The regions of a network by the inequalities of its root; None where there are no two of them.
-fn found_of<T: TreeSearch>(
+fn found_of(
     alloc: Global,
     network: &Network,
     inequalities: &mut [Multiplied],
@@ -132,7 +132,7 @@ fn found_of<T: TreeSearch>(
     scale: u32,
     least: u32,
     most: u32,
-) -> Result<Option<NestedRegions<T>>, Memory> {
+) -> Result<Option<NestedRegions>, Memory> {
     let divisions = divisions_of(alloc, network, inequalities, least, most)?;
     let found = shifted(alloc, network, &divisions, inequalities, slacks, scale);
     drop(divisions);
@@ -140,12 +140,12 @@ fn found_of<T: TreeSearch>(
 }
 
 /// The work of a region for its part, which is its size.
-fn part_of<T: TreeSearch>(region: &Nested<T>) -> u128 {
+fn part_of(region: &Nested) -> u128 {
     let work = u128::from(region.search.work()).saturating_mul(1 << 40);
     work.checked_div(size_of(region)).unwrap_or(work)
 }
 
-impl<T: TreeSearch> Regions<T> {
+impl Regions {
     /// The regions of a network by the multipliers of its root, which are told by the scale, and by its slacks, in 1/65536: the
     /// smallest have at most `least` events, the greatest at most `most`. None where there are no two of them.
     pub fn new(
@@ -156,7 +156,7 @@ impl<T: TreeSearch> Regions<T> {
         scale: u32,
         least: u32,
         most: u32,
-    ) -> Result<Option<Regions<T>>, Memory> {
+    ) -> Result<Option<Regions>, Memory> {
         let mut inequalities = inequalities_of(alloc, network, root)?;
         match found_of(
             alloc,
@@ -180,7 +180,7 @@ impl<T: TreeSearch> Regions<T> {
     }
 
     /// The regions that were found by inequalities.
-    fn with(alloc: Global, found: NestedRegions<T>, inequalities: Vec<Multiplied>) -> Regions<T> {
+    fn with(alloc: Global, found: NestedRegions, inequalities: Vec<Multiplied>) -> Regions {
         let NestedRegions {
             nesting,
             outside,
@@ -242,7 +242,7 @@ impl<T: TreeSearch> Regions<T> {
     }
 
     /// Whether nothing is left to be done in all regions inside one.
-    fn is_ready(&self, region: &Nested<T>) -> bool {
+    fn is_ready(&self, region: &Nested) -> bool {
         for number in &region.inner {
             let inner = self.nested.get(*number as usize);
             if !inner.is_some_and(|inner| inner.search.is_over()) {
@@ -402,7 +402,7 @@ impl<T: TreeSearch> Regions<T> {
     }
 
     /// What is told of a region.
-    fn told_region(&self, search: &RegionSearch<T>) -> Result<ToldRegion, Memory> {
+    fn told_region(&self, search: &RegionSearch) -> Result<ToldRegion, Memory> {
         let rows = Vec::from_slice(self.alloc, &search.region.rows)?;
         let turned = Vec::from_slice(self.alloc, &search.region.turned)?;
         let mut weights = Vec::with_capacity(self.alloc, rows.len())?;

@@ -1,7 +1,6 @@
 //! What regions are worth together, and which of them show that.
 
 use crate::nested::Nested;
-use pesp_offset_tree::TreeSearch;
 use std::alloc::{AllocError, Global};
 
 /// What each region is worth by its own tree, by those inside it, and by the better of both.
@@ -27,13 +26,13 @@ impl Worth {
 }
 
 /// What a region shows by its own tree.
-fn own_of<T: TreeSearch>(region: &Nested<T>) -> i128 {
+fn own_of(region: &Nested) -> i128 {
     let constant = i128::from(region.search.region.constant);
     i128::from(region.search.bound()).saturating_add(constant)
 }
 
 /// What the regions inside one show together; None where there is none.
-fn inner_of<T>(region: &Nested<T>, worths: &[Worth]) -> Option<i128> {
+fn inner_of(region: &Nested, worths: &[Worth]) -> Option<i128> {
     if region.inner.is_empty() {
         return None;
     }
@@ -46,10 +45,7 @@ fn inner_of<T>(region: &Nested<T>, worths: &[Worth]) -> Option<i128> {
 }
 
 /// What each region is worth. Those inside a region stand before it.
-pub(crate) fn worths_of<T: TreeSearch>(
-    alloc: Global,
-    regions: &[Nested<T>],
-) -> Result<Vec<Worth>, AllocError> {
+pub(crate) fn worths_of(alloc: Global, regions: &[Nested]) -> Result<Vec<Worth>, AllocError> {
     let mut worths: Vec<Worth> = Vec::with_capacity(alloc, regions.len())?;
     for region in regions {
         let inner = inner_of(region, &worths);
@@ -62,9 +58,9 @@ pub(crate) fn worths_of<T: TreeSearch>(
 }
 
 /// The regions that show the most together, of these outer ones and those inside them.
-pub(crate) fn selected<T>(
+pub(crate) fn selected(
     alloc: Global,
-    regions: &[Nested<T>],
+    regions: &[Nested],
     worths: &[Worth],
     outer: &[u32],
 ) -> Result<Vec<u32>, AllocError> {

@@ -9,27 +9,27 @@ use std::cmp::Reverse;
 const MOST_PARTS: u128 = 2;
 
 /// How much work a region is taken to be: its rows times their root.
-pub(crate) fn size_of<T>(region: &Nested<T>) -> u128 {
+pub(crate) fn size_of(region: &Nested) -> u128 {
     let rows = region.search.region.rows.len() as u128;
     rows.saturating_mul(rows.saturating_mul(1 << 16).isqrt())
 }
 
 /// The size of the region of a number.
-fn size_at<T>(nested: &[Nested<T>], number: u32) -> u128 {
+fn size_at(nested: &[Nested], number: u32) -> u128 {
     nested
         .get(number as usize)
         .map_or(0, |region| size_of(region))
 }
 
 /// How many regions are inside the one of a number.
-fn inner_count<T>(nested: &[Nested<T>], number: u32) -> usize {
+fn inner_count(nested: &[Nested], number: u32) -> usize {
     nested
         .get(number as usize)
         .map_or(0, |region| region.inner.len())
 }
 
 /// The place of the largest of some regions that has several inside it.
-fn largest<T>(nested: &[Nested<T>], regions: &[u32]) -> Option<usize> {
+fn largest(nested: &[Nested], regions: &[u32]) -> Option<usize> {
     let mut found = None;
     let mut most = 0u128;
     for (place, number) in regions.iter().enumerate() {
@@ -43,11 +43,7 @@ fn largest<T>(nested: &[Nested<T>], regions: &[u32]) -> Option<usize> {
 }
 
 /// Has the regions inside one in its place.
-fn open_at<T>(
-    nested: &[Nested<T>],
-    regions: &mut Vec<u32>,
-    place: usize,
-) -> Result<(), AllocError> {
+fn open_at(nested: &[Nested], regions: &mut Vec<u32>, place: usize) -> Result<(), AllocError> {
     let Some(number) = regions.get(place).copied() else {
         return Ok(());
     };
@@ -59,7 +55,7 @@ fn open_at<T>(
 }
 
 /// The size of all of some regions.
-fn size_of_all<T>(nested: &[Nested<T>], regions: &[u32]) -> u128 {
+fn size_of_all(nested: &[Nested], regions: &[u32]) -> u128 {
     let mut sum = 0u128;
     for number in regions {
         sum = sum.saturating_add(size_at(nested, *number));
@@ -68,9 +64,9 @@ fn size_of_all<T>(nested: &[Nested<T>], regions: &[u32]) -> u128 {
 }
 
 /// The outer regions, for so many shares; those inside a region stand in its place where it has much more than an even part.
-fn opened<T>(
+fn opened(
     alloc: Global,
-    nested: &[Nested<T>],
+    nested: &[Nested],
     outer: &[u32],
     shares: u32,
 ) -> Result<Vec<u32>, AllocError> {
@@ -101,9 +97,9 @@ fn least_of(sums: &[u128]) -> usize {
 }
 
 /// Those of some regions that a share has. They are dealt by falling size, each to the share that has least so far.
-fn dealt<T>(
+fn dealt(
     alloc: Global,
-    nested: &[Nested<T>],
+    nested: &[Nested],
     regions: &[u32],
     share: Share,
 ) -> Result<Vec<u32>, AllocError> {
@@ -122,9 +118,9 @@ fn dealt<T>(
 }
 
 /// The regions of a share, none of which is inside another one.
-pub(crate) fn share_of<T>(
+pub(crate) fn share_of(
     alloc: Global,
-    nested: &[Nested<T>],
+    nested: &[Nested],
     outer: &[u32],
     share: Share,
 ) -> Result<Vec<u32>, AllocError> {
@@ -134,9 +130,9 @@ pub(crate) fn share_of<T>(
 }
 
 /// Which regions are among some, or inside one of these.
-pub(crate) fn with_inner<T>(
+pub(crate) fn with_inner(
     alloc: Global,
-    nested: &[Nested<T>],
+    nested: &[Nested],
     regions: &[u32],
 ) -> Result<Vec<bool>, AllocError> {
     let mut are_there = vec![in alloc; false; nested.len()]?;

@@ -4,10 +4,10 @@ ghost use Rattle.std.specs.Prelude.{◌≡◌, IfOk};
 ghost use Rattle.pesp_branching.specs.Lifted.{IsReduced};
 
 use crate::race::further;
-use pesp_forest_search::search_forest;
 use pesp_network::Network;
 use pesp_problem::{Instance, Memory};
 use pesp_reduce::{Reduced, reduce};
+use pesp_timetables::search_forest;
 use pesp_turns::{Observer, SearchPhase};
 use std::alloc::Global;
 

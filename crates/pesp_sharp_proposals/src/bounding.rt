@@ -1,10 +1,10 @@
 //! Regions beside the tree: what they show, and whose turn it is of both.
 
-use pesp_offset_tree::{Sharpened, Step, TreeSearch};
+use pesp_offset_tree::Sharpened;
 use pesp_problem::Memory;
 use pesp_regions::Regions;
 use pesp_sharp_trees::Left;
-use pesp_sharpening::Sharpening;
+use pesp_sharpening::{Sharpening, Step};
 
 /// From how many rows on regions are looked at.
 const LEAST_ROWS: usize = 1_200;
@@ -28,7 +28,7 @@ const STALL_PART: u64 = 2;
 #[derive(Drop)]
 pub(crate) struct Bounding {
     pub(crate) root: Sharpened,
-    pub(crate) regions: Regions<Sharpening>,
+    pub(crate) regions: Regions,
     pub(crate) bound: u64,
     gained_at: u64,
     root_work: u64,
@@ -45,7 +45,7 @@ fn regions_of(
     root: &Sharpened,
     slacks: &[i64],
     scale: u32,
-) -> Result<Option<Regions<Sharpening>>, Memory> {
+) -> Result<Option<Regions>, Memory> {
     Regions::new(
         left.alloc,
         left.network,

@@ -3,7 +3,6 @@
 use crate::bounding::Bounding;
 use crate::search::SharpSearch;
 use pesp_cert::Fronted;
-use pesp_offset_tree::TreeSearch;
 use pesp_problem::Memory;
 use pesp_search::Proposals;
 use pesp_sharp_certificates::{Best, TreeParts, timed_of, told_fronted};

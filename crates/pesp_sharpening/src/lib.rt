@@ -3,10 +3,9 @@
 //! judged by others.
 #![tactic(auto)]
 
-mod choosing;
 mod given;
 mod opens;
 mod sharpening;
 mod warm;
 
-pub use sharpening::Sharpening;
+pub use sharpening::{Sharpening, Step};

@@ -1,10 +1,10 @@
 //! Steps by exchanges over the program that all leaves share.
 
 use crate::opens::{LeafStart, Open};
-use crate::sharpening::Sharpening;
-use pesp_offset_tree::{Candidate, Knot, LeafMultipliers, Step, open_cut, times_near};
+use crate::sharpening::{Sharpening, Step};
+use pesp_offset_tree::{Candidate, Knot, LeafMultipliers, open_cut, times_near};
 use pesp_sharp_nodes::{BoundSense, Limit, NodeProgram, UNIT};
-use pesp_warm_nodes::{NodeBasis, Shared, ShownBound, SolveStatus};
+use pesp_warm_nodes::{NodeBasis, Shared, ShownBound, SolveStatus, note};
 use std::alloc::{AllocError, Global};
 use std::mem::replace;
 
@@ -53,6 +53,11 @@ fn leaf_of(shown: ShownBound) -> (LeafMultipliers, u64) {
 }
 
 impl Sharpening {
+    /// How many units of a multiplier that is told make up one.
+    pub fn scale(&self) -> u32 {
+        self.sharpener.setting.scale
+    }
+
     /// Goes on from the root by exchanges, where they are for it; whether they are.
     pub(crate) fn share(
         &mut self,
@@ -298,6 +303,18 @@ impl Sharpening {
         self.split_warm(shared, open.place, bound, basis, limit)
     }
 
+    /// The cut by which a leaf is split; None where all its offsets look whole.
+    fn choose_warm(
+        &mut self,
+        shared: &mut Shared,
+        basis: &NodeBasis,
+        limit: Limit,
+    ) -> Result<Option<Candidate>, AllocError> {
+        let setting = &self.sharpener.setting;
+        let experience = &mut self.experience;
+        shared.choose(setting, experience, basis.depth, limit)
+    }
+
     /// Splits a leaf by the cut that is chosen. Where all offsets look whole, it is solved from an inverse that is built anew
     /// first, and times near the slacks are met; then any range is cut that is open.
     fn split_warm(
@@ -308,7 +325,7 @@ impl Sharpening {
         basis: &NodeBasis,
         limit: Limit,
     ) -> Result<Step, AllocError> {
-        let found = self.choose_warm(shared, basis.depth, limit)?;
+        let found = self.choose_warm(shared, basis, limit)?;
         if let Some(found) = found {
             return self.split_by(shared, place, bound, basis, found, limit);
         }
@@ -384,7 +401,8 @@ impl Sharpening {
         };
         let end = shared.solve_part(limit)?;
         let gain = shared.gain_since(before, end, limit);
-        self.note(found, side, gain);
+        let setting = &self.sharpener.setting;
+        note(setting, &mut self.experience, found, side, gain);
         let number = self.tell_part(shared, above, end, limit)?;
         shared.leave_part(&self.sharpener.setting, found.cut, old)?;
         Ok(number)

@@ -1,12 +1,10 @@
 -- Labels that become those of the first events, row by row.
-use Rattle.std.proofs.Common.{◌≡◌, ◌≢◌, ℕ, ◌+◌, ◌⊎◌, inl, inr, List, ◌++◌, take, drop, length, max, min, ap}
-use Rattle.std.proofs.Common.{sym, ◌∙◌, subst, arith}
+use Rattle.std.proofs.Common.{◌≡◌, ◌≢◌, ℕ, ◌+◌, ◌⊎◌, inl, inr, List, ◌++◌, take, drop, length, max, min, ap, sym, ◌∙◌, arith}
 use Rattle.std.specs.Prelude.{slice_index}
 use Rattle.std.proofs.lemmas.List.{take_at}
 use Rattle.pesp_problem.specs.declared.arc.Arc.{Arc}
 use Rattle.pesp_problem.specs.Arcs.{arc_at}
 use Rattle.pesp_problem.specs.Forests.{IsFirstOf}
-use Rattle.pesp_truth.specs.Supports.{Rows, AreReadyForRounds}
 use Rattle.pesp_problem.proofs.Joined.{first_in, merged, merged_most, merged_else, first_more, first_all}
 
 same_or : (a b : ℕ) → (a ≡ b) ⊎ (a ≢ b)
@@ -32,17 +30,3 @@ first_end arcs k event f e h = first_all arcs event f (h ∙ ap (λ x. first_in 
 -- the whole of a vector was written
 pub whole : (len : ℕ) (xs ys : List ℕ) → length ys ≡ len → take len (ys ++ drop (length ys) xs) ≡ ys
 whole len xs ys e = take_at ys (drop (length ys) xs) len e
-
--- the whole of a vector of so many was written
-pub whole_long : {X : Type 0} (len k : ℕ) (new rest : List X) → length new ≡ len → len ≡ k
-    → length (take len (new ++ rest)) ≡ k
-whole_long len k new rest e f = ap length (take_at new rest len e) ∙ e ∙ f
-
--- what holds of a support holds after its vectors were written
-pub ready_as : (rows : Rows) (firsts : List ℕ) (a b d x y z : ℕ) → a ≡ x → b ≡ y → d ≡ z
-    → AreReadyForRounds rows firsts x y z → AreReadyForRounds rows firsts a b d
-ready_as rows firsts a b d x y z e f g h =
-    let P : ℕ → Type 0 = λ k. AreReadyForRounds rows firsts k b d in
-    let Q : ℕ → Type 0 = λ k. AreReadyForRounds rows firsts x k d in
-    let R : ℕ → Type 0 = AreReadyForRounds rows firsts x y in
-    subst P (sym e) (subst Q (sym f) (subst R (sym g) h))

@@ -9,9 +9,6 @@ use Rattle.pesp_problem.specs.Families.{Family, IsFamily, IsSupportedBy, IsSuppo
 use Rattle.pesp_truth.specs.declared.visit.Narrowed.{Narrowed}
 use Rattle.pesp_truth.specs.declared.rounds.Round.{Round}
 use Rattle.pesp_truth.specs.declared.rounds.Round.TheVariants as round
-use Rattle.pesp_truth.specs.contracts.rounds.Round.{the_type}
-use denote.Enum.Declared.{tag_of}
-use lib.Dec.{eqb}
 use Rattle.pesp_truth.specs.Sets.{family_at}
 use Rattle.pesp_truth.specs.Visits.{HasSome, LiesAt, RefutesAt, IsNarrowed}
 use Rattle.pesp_problem.specs.ArcLimits.{HaveEnds}
@@ -227,22 +224,3 @@ pub known_of : (n : Net) (ranges : List (ℕ × ℕ)) (events m : ℕ) (old new 
 known_of n ranges events m old new marks round.Emptied e h = subst (λ k. NoFamilyIsSupported n ranges k) e h
 known_of n ranges events m old new marks round.Narrowed e h = (subst (λ k. IsWide n ranges k (family_at n.period new)) e h.0, h.1)
 known_of n ranges events m old new marks round.Settled e h = (subst (λ k. IsWide n ranges k (family_at n.period new)) e h.0, h.1)
-
-not_true : ◌≡◌ {A = Bool} false true → ⊥
-not_true e = cc
-
--- what is known of a round that narrowed the sets
-pub narrowed_of : (n : Net) (ranges : List (ℕ × ℕ)) (events : ℕ) (words : List ℕ) (now : List Bool) (r : Round)
-    → eqb (tag_of the_type r) 1 ≡ true → Known n ranges events words now r
-    → IsWide n ranges events (family_at n.period words) × QuietRowsSupport n ranges now (family_at n.period words)
-narrowed_of n ranges events words now round.Emptied e h = absurd (not_true e)
-narrowed_of n ranges events words now round.Narrowed e h = h
-narrowed_of n ranges events words now round.Settled e h = absurd (not_true e)
-
--- where each event is marked, no row is quiet
-pub all_marked : (n : Net) (ranges : List (ℕ × ℕ)) (events : ℕ) (marks : List Bool) (sets : Family)
-    → HaveEnds events n.arcs → ((event : ℕ) → event < events → is_marked marks event ≡ true) → QuietRowsSupport n
-    ranges marks sets
-all_marked n ranges events marks sets ends marked i l q =
-    let set = marked (arc_at n.arcs i).tail (ends i l).0 in
-    let unset = q.0 in absurd cc

@@ -1,17 +1,12 @@
 -- Sets as the bits of one word.
-use Rattle.std.proofs.Common.{◌≡◌, ◌≢◌, ℕ, ◌+◌, ◌-◌, ◌*◌, ◌/◌, ◌%◌, ◌^◌, ◌<◌, ◌≤◌, ◌⊎◌, inl, inr, List}
-use Rattle.std.proofs.Common.{length, get_or, ap, sym, ◌∙◌, arith, refl, true, false, get_or-set_same}
-use Rattle.std.proofs.Common.{get_or-set_other, sum}
-use Rattle.std.specs.Prelude.{bit_and, bit_or, max, min, nat_eq, not, ◌==◌}
+use Rattle.std.proofs.Common.{◌≡◌, ◌≢◌, ℕ, ◌+◌, ◌-◌, ◌*◌, ◌/◌, ◌%◌, ◌^◌, ◌<◌, ◌≤◌, ◌⊎◌, inl, inr, List, length, get_or, ap, sym, ◌∙◌, arith, true, get_or-set_same, get_or-set_other}
+use Rattle.std.specs.Prelude.{bit_and, bit_or, max, min, nat_eq}
 use Rattle.std.specs.Int.{bit_at, bit_not, w64, trailing_zeros}
 use Rattle.std.proofs.Math.ListN.{set}
 use Rattle.std.proofs.Math.Nat.{mod-eq_of_lt}
 use Rattle.std.proofs.lemmas.Bool.Decides.{nat_tests}
 use Rattle.std.proofs.lemmas.Nat.{and_le_l, shr-shr, shr_split, pow_pos}
 use Rattle.std.proofs.lemmas.Nat.Bits.{bit_at_or, bit_at_and, bit_at_not, bit_at_cat_low, bit_at_cat_high, bit_at-zero, bit_at-lt, bit_at-trailing_zeros, bit_at_ones, bit_at_ones_above}
-use Rattle.std.proofs.lemmas.List.{set-get_or}
-use Rattle.std.proofs.lemmas.List.Sums.{sum_by-set}
-use Rattle.pesp_problem.specs.Words.{IsLess}
 use Rattle.pesp_problem.proofs.Shifts.{mod_more, mod_same, mod_inner}
 use Rattle.pesp_truth.specs.Sets.{is_set, padded_period, family_at}
 use Rattle.pesp_truth.specs.Visits.{HasSome}
@@ -284,18 +279,3 @@ no_number t event set ws p l h s e =
     let m = placing.below t event s.0 ws s.1 in
     let o : bit_at set s.0 ≡ 1 = h.inside s.0 m ∙ has_bit t event s.0 ws p l s.1 in
     never (bit_at set s.0) (ap (λ (n : ℕ). bit_at n s.0) e ∙ bit_at-zero s.0) o
-
--- a word that is cut is less, or the same
-pub less_set : (xs : List ℕ) (i v : ℕ) → i < length xs → v ≤ get_or xs i 0
-    → IsLess xs (set xs i v) (not (v == get_or xs i 0))
-less_set xs i v l h = record {
-  same = λ e. let is : v ≡ get_or xs i 0 = grind (arith, nat_tests) in rw is (set-get_or xs i 0);
-  less = λ e.
-      let below : v < get_or xs i 0 = grind (arith, nat_tests) in
-      let sums : sum (set xs i v) + get_or xs i 0 ≡ sum xs + v = sum_by-set (λ (x : ℕ). x) xs i v 0 l in omega
-      (arith, below, sums);
-}
-
--- nothing is taken away
-pub less_none : (xs : List ℕ) → IsLess xs xs false
-less_none xs = record { same = λ _. refl; less = λ e. absurd cc }

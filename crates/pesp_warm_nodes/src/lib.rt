@@ -4,6 +4,7 @@
 #![tactic(auto)]
 
 mod basis;
+mod choosing;
 mod finding;
 mod ranges;
 mod shared;
@@ -11,6 +12,7 @@ mod solving;
 mod telling;
 
 pub use basis::NodeBasis;
+pub use choosing::note;
 pub use pesp_dual_simplex::SolveStatus;
 pub use shared::Shared;
 pub use telling::ShownBound;

@@ -40,7 +40,7 @@ impl Shared {
     }
 
     /// Makes at most so many exchanges.
-    pub fn solve(&mut self, limit: Limit, most: u32) -> Result<SolveStatus, AllocError> {
+    pub(crate) fn solve(&mut self, limit: Limit, most: u32) -> Result<SolveStatus, AllocError> {
         self.solves = self.solves.saturating_add(1);
         let stop = self.stop_at(limit);
         self.simplex.solve(stop, most)

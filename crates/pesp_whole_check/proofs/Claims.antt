@@ -17,7 +17,7 @@ use Rattle.pesp_cert_lines.proofs.Tests.{and_left}
 use Rattle.pesp_cert.specs.Limits.{is_cost, has_costs}
 use Rattle.pesp_leaves.specs.declared.checker.Shown.{Shown}
 use Rattle.pesp_leaves.specs.declared.checker.Claim.{Claim as ToldClaim}
-use Rattle.pesp_leaves.specs.declared.checker.Claim.TheVariants.{Plain as TellsPlain, Behind as TellsBehind}
+use Rattle.pesp_leaves.specs.declared.checker.Claim.TheVariants.{Behind as TellsBehind}
 use Rattle.pesp_leaves.specs.Claims.{FitsShown, FitsClaim, AreOf, TellsOf}
 use Rattle.pesp_leaves.specs.Taken.{HaveRows, AreSmallWeights}
 use Rattle.pesp_leaves.proofs.Summing.{rows_exist}
@@ -103,7 +103,3 @@ pub least_few : (a : Answer) → has_costs a ≡ true → IfSome (least_of a) (�
 least_few (Optimal n) h = few_of n 1000000000000000000 h
 least_few Infeasible h = tt
 least_few (Bounded n cost) h = few_of n 1000000000000000000 (and_left (nat_lt n 1000000000000000000) (is_cost cost) h)
-
--- what is told without a front fits
-pub plain_fits : (p : Pesp) (least : Option ℕ) → FitsClaim p (TellsPlain least)
-plain_fits p least s is = absurd cc

@@ -3,11 +3,7 @@ use Rattle.std.proofs.Common.{◌≡◌, ℕ, ◌+◌, ◌<◌, ◌≤◌, arith
 use Rattle.std.specs.Prelude.{All, unsigned_abs, ◌&&◌, ◌==◌, not, nat_lt, nat_le, nat_abs}
 use Rattle.std.specs.List.{list_all}
 use Rattle.std.proofs.lemmas.Bool.Decides.{nat_tests}
-use Rattle.std.proofs.lemmas.List.{get_or_default}
 use Rattle.std.proofs.lemmas.List.Elements.{All-nil, All-cons}
-use Rattle.pesp_problem.specs.declared.row.SignedRow.{SignedRow}
-use Rattle.pesp_problem.specs.declared.nets.NetCount.{NetCount}
-use Rattle.pesp_problem.specs.Nets.{AreNets, AreSmallCounts}
 use Rattle.pesp_problem.specs.declared.pair.Pair.{Pair}
 use Rattle.pesp_truth.specs.declared.tree.TreeLine.{TreeLine}
 use Rattle.pesp_truth.specs.declared.tree.TreeLine.TheVariants.{Slack, Offset, Bound, Nothing, Gap, Propagated}
@@ -146,10 +142,3 @@ lemma_within f c has j s l is =
 
 pub few_lemmas : (lemmas : List LemmaProof) → are_lemmas lemmas ≡ true → length lemmas ≤ 100000
 few_lemmas lemmas e = le_of (length lemmas) 100000 (both (nat_le (length lemmas) 100000) (list_all is_shown_lemma lemmas) e).0
-
--- net counts of walks are small
-pub small_counts : (n : ℕ) (walks : List (List SignedRow)) (table : List (List NetCount)) → AreNets n walks table
-    → All (AreSmallCounts n) table
-small_counts n walks table nets k d l =
-    let P : List NetCount → Type 0 = AreSmallCounts n in
-    subst P (sym (get_or_default table k d [] l)) (nets.each k l).small

@@ -1,6 +1,5 @@
-use Rattle.std.proofs.Common.{map, arith}
-use Rattle.pesp_truth.specs.Trees.{line_of}
-use Rattle.pesp_board.proofs.Taken.{taken_none, some_waits, fits_there, sound_there, keeps_there, may_pass, taken_more, taken_all}
+use Rattle.std.proofs.Common.{arith}
+use Rattle.pesp_board.proofs.Taken.{sound_there, keeps_there, may_pass, taken_more, taken_all}
 use Rattle.pesp_board.proofs.adoption.value_lines.Goals as goal
 
 pub valued_part-requires-clause-sound : goal.valued_part-requires-clause-sound
@@ -38,16 +37,3 @@ returns-clause-valued c =
     let test = c.loop-line-test.false in
     (taken_all c.args.problem.now c.args.walk.now c.args.lines.now c.loop-line.walk c.loop-line.parts.items
     c.loop-line.line-index (omega (arith, test)) c.loop-line.invariant).1
-
-pub loop-line-init : goal.loop-line-init
-loop-line-init c = rw (c.new-parts.ensures.items) (taken_none c.args.problem.now c.args.walk.now
-    (map line_of c.args.lines.now) c.requires.nodes c.requires.sound c.requires.limits)
-
-pub node-requires : goal.node-requires
-node-requires c = some_waits c.args.lines.now c.loop-line.line-index c.line-item.result c.loop-line-test.true
-    c.line-item.is c.args.problem.now c.args.walk.now c.loop-line.walk c.loop-line.parts.items c.loop-line.invariant
-
-pub valued_part-requires-clause-node : goal.valued_part-requires-clause-node
-valued_part-requires-clause-node c = fits_there c.args.lines.now c.loop-line.line-index c.line-item.result
-    c.loop-line-test.true c.line-item.is c.args.problem.now c.args.walk.now c.loop-line.walk
-    c.loop-line.parts.items c.loop-line.invariant c.node.result.now c.node.ensures.0 c.node.ensures.1

@@ -1,10 +1,8 @@
-use Rattle.std.proofs.Common.{sym, ap, ◌∙◌, arith, subst}
-use Rattle.std.specs.Prelude.{is_some}
+use Rattle.std.proofs.Common.{sym, ◌∙◌, arith, subst}
 use Rattle.pesp_truth.specs.Trees.{Bound}
 use Rattle.pesp_tree.specs.States.{node_at}
 use Rattle.pesp_board.specs.Parts.{MakesParts}
 use Rattle.pesp_board.specs.Giving.{AreCuts}
-use Rattle.pesp_board.proofs.Growing.{site_within}
 use Rattle.pesp_board.proofs.Paths.{path_cuts, leaf_pairs}
 use Rattle.pesp_board.proofs.Sizing.{pairs_few, part_made, part_large, made_parts}
 use Rattle.pesp_board.proofs.give.make_at.Goals as goal
@@ -64,18 +62,3 @@ returns c =
           c.args.work.now c.in_ok-made.made c.in_ok-made.ensures);
     })
     c.deref-2.ensures.value c.in-None.ensures
-
-pub size_with-requires-clause-lines : goal.size_with-requires-clause-lines
-size_with-requires-clause-lines c =
-    let few = c.nodes-lines.ensures.whole.within in
-    let count = c.nodes-lines.ensures.count in
-    omega (arith, few, count)
-
-pub size_with-requires-clause-rest : goal.size_with-requires-clause-rest
-size_with-requires-clause-rest c =
-    let most = c.requires.limits.small.pairs in
-    let count = c.requires.count in
-    omega (arith, most, count)
-
-pub path-requires : goal.path-requires
-path-requires c = site_within c.args.tree.now c.args.node (ap is_some c.requires.leaf)

@@ -1,7 +1,6 @@
-use Rattle.std.proofs.Common.{◌≡◌, List, [], ◌∷◌, ℕ, reverse, ap, arith, sym, subst}
-use Rattle.pesp_board.proofs.Queues.{no_items}
-use Rattle.pesp_board.proofs.Planted.{ArePlanted, planted_none, turned, some_node, popped, few_wait, may_grow, number_fits, planted_more, AreAllPlanted, planted_all}
-use Rattle.pesp_board.proofs.replacement.plant.Goals.{In-Some-pop, After-drop-left}
+use Rattle.std.proofs.Common.{List, ◌∷◌, ℕ, reverse, arith, sym, subst}
+use Rattle.pesp_board.proofs.Planted.{ArePlanted, popped, few_wait, may_grow, number_fits, planted_more}
+use Rattle.pesp_board.proofs.replacement.plant.Goals.{In-Some-pop}
 use Rattle.pesp_board.proofs.replacement.plant.Goals as goal
 
 -- what is planted, with the last of both lists in front
@@ -62,54 +61,3 @@ loop-part-preserved c =
       memory = omega (arith, memory, same, kept);
       fewer = omega (arith, fewer, less);
     }
-
-pub loop-part-init : goal.loop-part-init
-loop-part-init c =
-    let long = c.args.parts.ok.0 in
-    let memory = c.requires.memory in
-    record {
-      planted = planted_none c.args.tree.now c.args.queue.now (reverse c.args.waiting.now.items)
-          (reverse c.args.parts.items) c.requires.ready;
-      memory = omega (arith, long, memory);
-      fewer = omega arith;
-    }
-
-pub unreachable-requires : goal.unreachable-requires
-unreachable-requires c =
-    let tree = c.loop-part.tree in
-    let queue = c.loop-part.queue in
-    let popped = c.pop.new.self.items in
-    let left = turned c.loop-part.left.items popped c.in-Some.part c.in-Some.ensures.items in
-    let long = c.loop-part.waiting.ok.0 in
-    let none = c.in_default-pop.ensures.cases.0 in
-    let waiting = ap reverse (no_items c.loop-part.waiting.items (omega (arith, long, none))) in
-    some_node tree queue (reverse c.loop-part.waiting.items) c.in-Some.part (reverse popped)
-    (rw left at c.loop-part.invariant.planted.ready) waiting
-
-pub plant_part-requires-clause-leaf : goal.plant_part-requires-clause-leaf
-plant_part-requires-clause-leaf c = (now (goal.at.plant_part-requires-clause-leaf c).In-Some-pop).ready.sites.0
-
-pub plant_part-requires-clause-room : goal.plant_part-requires-clause-room
-plant_part-requires-clause-room c =
-    let room = (now (goal.at.plant_part-requires-clause-room c).In-Some-pop).ready.room in
-    omega (arith, room)
-
-pub plant_part-requires-clause-fresh : goal.plant_part-requires-clause-fresh
-plant_part-requires-clause-fresh c = (now (goal.at.plant_part-requires-clause-fresh c).In-Some-pop).ready.fresh.0
-
-all : (c : After-drop-left) → AreAllPlanted c.args.tree.now c.args.queue.now (reverse c.args.waiting.now.items)
-    (reverse c.args.parts.items) c.loop-part.tree c.loop-part.queue
-all c =
-    let long = c.loop-part.left.ok.0 in
-    let none = c.in_default.ensures.cases.0 in
-    let left : reverse c.loop-part.left.items ≡ [] =
-    ap reverse (no_items c.loop-part.left.items (omega (arith, long, none))) in
-    planted_all c.args.tree.now c.args.queue.now (reverse c.args.waiting.now.items) (reverse c.args.parts.items)
-    c.loop-part.tree c.loop-part.queue (reverse c.loop-part.waiting.items)
-    (rw left at c.loop-part.invariant.planted)
-
-pub returns-clause-tree : goal.returns-clause-tree
-returns-clause-tree c = (all c).tree
-
-pub returns-clause-waiting : goal.returns-clause-waiting
-returns-clause-waiting c = (all c).waits

@@ -1,7 +1,7 @@
-use Rattle.std.proofs.Common.{◌≡◌, ℕ, ◌-◌, ◌<◌, length, length-drop, arith, sym, ◌∙◌, ap, subst, List, drop}
+use Rattle.std.proofs.Common.{◌≡◌, ℕ, ◌-◌, ◌<◌, length, arith, sym, ◌∙◌, ap, subst, List, drop}
 use Rattle.pesp_bound.specs.Settling.{at, GainsForEver}
 use Rattle.std.proofs.lemmas.List.{get_or_read}
-use Rattle.pesp_bound.proofs.Lifting.{length_zeros, one_less, closes, climbs_on_as, starts_as}
+use Rattle.pesp_bound.proofs.Lifting.{length_zeros, closes, climbs_on_as, starts_as}
 use Rattle.pesp_bound.proofs.passes.climb.Goals as goal
 
 pub loop-k-init : goal.loop-k-init
@@ -57,52 +57,3 @@ returns-then-k-eq0-clause-found c most within above =
     let high = climbed.high most within above in
     let low = climbed.grown.root c.loop-k.current c.if-k-eq0.true in
     absurd (omega (arith, high, low))
-
-pub loop-k-smaller : goal.loop-k-smaller
-loop-k-smaller c =
-    let items = c.loop-k.place.items in
-    let cur = c.loop-k.current in
-    let in_place : cur < length items = let l = c.loop-k.place.ok.0 in let s = c.loop-k.invariant.size in
-    let h = c.loop-k.invariant.here in omega (arith, l, s, h) in
-    let n = c.in_ok-push.ensures.len in
-    let e = c.len.ensures in
-    let less = one_less items cur c.len.result in_place
-    (sym (get_or_read items cur _ in_place c.index.ensures 0) ∙ c.loop-k-test.true) (omega (arith, n, e)) in
-    omega (arith, less)
-
-pub overflow_sub-index : goal.overflow_sub-index
-overflow_sub-index c =
-    let items = c.loop-k.place.items in
-    let cur = c.loop-k.current in
-    let in_place : cur < length items = let l = c.loop-k.place.ok.0 in let s = c.loop-k.invariant.size in
-    let h = c.loop-k.invariant.here in omega (arith, l, s, h) in
-    let first = get_or_read items cur _ in_place c.index.ensures 0 in
-    let second = get_or_read items cur _ in_place c.index-2.ensures 0 in
-    let test = c.loop-k-test.false in
-    omega (arith, first, second, test)
-
-pub split_off-requires : goal.split_off-requires
-split_off-requires c =
-    let items = c.loop-k.place.items in
-    let cur = c.loop-k.current in
-    let in_place : cur < length items = let l = c.loop-k.place.ok.0 in let s = c.loop-k.invariant.size in
-    let h = c.loop-k.invariant.here in omega (arith, l, s, h) in
-    let first = get_or_read items cur _ in_place c.index.ensures 0 in
-    let second = get_or_read items cur _ in_place c.index-2.ensures 0 in
-    let test = c.loop-k-test.false in
-    let most = c.loop-k.invariant.climbed.marked cur (omega (arith, first, test)) in
-    let l = c.loop-k.way.ok.0 in
-    omega (arith, second, most, l)
-
-pub returns-clause-short : goal.returns-clause-short
-returns-clause-short c =
-    let tail = ap length c.in_ok-closed.ensures.tail in
-    let left = length-drop (c.index-2.result.now - 1) c.loop-k.way.items in
-    let few = c.loop-k.invariant.climbed.few in
-    omega (arith, tail, left, few)
-
-pub bounds-edges-k : goal.bounds-edges-k
-bounds-edges-k c =
-    let row = c.loop-k.invariant.climbed.grown.row c.loop-k.current in
-    let some = c.if-k-eq0.false in
-    omega (arith, row, some)

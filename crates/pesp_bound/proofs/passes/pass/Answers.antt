@@ -1,7 +1,7 @@
-use Rattle.std.proofs.Common.{ℕ, ◌+◌, ◌≤◌, arith, refl, sym, ◌∙◌, subst, List}
+use Rattle.std.proofs.Common.{ℕ, ◌+◌, ◌≤◌, arith, sym, ◌∙◌, subst, List}
 use Rattle.std.specs.Prelude.{Option}
 use Rattle.pesp_bound.specs.Settling.{edge_at, at}
-use Rattle.pesp_bound.proofs.Lifting.{when_true, when_false, SoFar, so_far_lifts, so_far_stays, so_far_ends, low_but}
+use Rattle.pesp_bound.proofs.Lifting.{when_true, when_false, SoFar, so_far_lifts, so_far_stays, low_but}
 use Rattle.pesp_bound.proofs.passes.pass.Goals as goal
 use Rattle.pesp_bound.proofs.passes.pass.Goals.{then-lift+else-level-start, else-lift}
 
@@ -52,37 +52,3 @@ loop-k-preserved c =
             (so_far_stays edges c.args.level.now old new c.loop-k.last k i.so_far f.0 f.1)
       ];
     }
-
-pub lift-requires-clause-events : goal.lift-requires-clause-events
-lift-requires-clause-events c = c.loop-k.invariant.size_by ∙ sym c.loop-k.invariant.size
-
-pub lift-requires-clause-grown : goal.lift-requires-clause-grown
-lift-requires-clause-grown c = c.loop-k.invariant.grown
-
-pub loop-k-init : goal.loop-k-init
-loop-k-init c = record {
-  size = refl;
-  size_by = c.requires.events;
-  low = c.requires.low;
-  grown = c.requires.grown;
-  so_far = (refl, λ j l. absurd (omega (arith, l)));
-}
-
-pub bounds-level-start : goal.bounds-level-start
-bounds-level-start c =
-    let within = (c.requires.within.2 c.loop-k.k c.loop-k-test.true).0 in
-    let size = c.loop-k.invariant.size in
-    let events = c.lift.ensures.events in
-    omega (arith, within, size, events)
-
-pub returns-clause-cases : goal.returns-clause-cases
-returns-clause-cases c = so_far_ends c.args.edges.now c.args.level.now c.loop-k.level c.loop-k.last c.loop-k.k
-    c.args.limit c.loop-k-test.false c.loop-k.invariant.low c.loop-k.invariant.so_far
-
-pub returns-then-level-start-clause-cases : goal.returns-then-level-start-clause-cases
-returns-then-level-start-clause-cases c =
-    let i = c.loop-k.invariant in
-    let k = c.loop-k.k in
-    let s = so_far_lifts c.args.edges.now c.args.level.now c.loop-k.level c.lift.new.level c.loop-k.last k
-    (edge_at c.args.edges.now k).start i.so_far c.if-lift.ensures.cases (c.requires.within.2 k c.loop-k-test.true).0 in
-    (s.0, s.1, λ x ne. let o = c.lift.ensures.others x ne in let l = i.low x in omega (arith, o, l))

@@ -1,4 +1,4 @@
-use Rattle.std.proofs.Common.{◌∙◌, arith, ⊎_elim, inl, inr, rules}
+use Rattle.std.proofs.Common.{◌∙◌, arith, ⊎_elim, inl, inr}
 use Rattle.pesp_instance.specs.Records.{records_of}
 use Rattle.pesp_instance.proofs.Laws.{fault-law, read-law, pesp-is}
 use Rattle.pesp_instance.proofs.Limits.{table-keeps}
@@ -26,6 +26,3 @@ returns-clause-activities c =
       made
           ∙ pesp-is c.args.period c.in_ok-table.table.rows.items c.in_ok-table.table.events.keys e.0 e.2,
     )
-
-pub returns-then-text-gt-MAX_TEXT-clause-exact : goal.returns-then-text-gt-MAX_TEXT-clause-exact
-returns-then-text-gt-MAX_TEXT-clause-exact c = search rules

@@ -1,14 +1,11 @@
-use Rattle.std.proofs.Common.{arith, unsigned_abs, to_z, of_z, ◌≡◌, ◌-◌, ◌*◌, ◌^◌, ◌∙◌, ap, sym, length, List}
+use Rattle.std.proofs.Common.{arith, unsigned_abs, to_z, of_z, ◌≡◌, ◌<◌, ◌-◌, ◌∙◌, ap, sym, length, List}
 use Rattle.std.specs.Prelude.{◌+ℤ◌, count_by, ◌==◌}
 use Rattle.std.specs.Int.{w128}
-use Rattle.std.proofs.lemmas.Int.{ints, to_z-of_z}
+use Rattle.std.proofs.lemmas.Int.{ints}
 use Rattle.pesp_problem.specs.Arcs.{arcs_of}
 use Rattle.pesp_problem.specs.declared.nets.NetCount.{NetCount}
 use Rattle.pesp_problem.proofs.Flowing.{nets_read}
-use Rattle.pesp_leaves.proofs.Flowing.{pairs_apart, place_here, counts_read}
-use Rattle.pesp_leaves.proofs.Naming.{fewer_left}
-use Rattle.pesp_problem.proofs.Kept.{kept, kept_small}
-use Rattle.pesp_leaves.proofs.Kept.{room_for_sum}
+use Rattle.pesp_leaves.proofs.Flowing.{pairs_apart}
 use Rattle.pesp_leaves.proofs.Taking.{flow_sum_small, part_small, left_more, left_all}
 use Rattle.pesp_leaves.proofs.flows.take_flows.Goals as goal
 
@@ -22,24 +19,27 @@ plus-sum-requires g c =
     c.take_flow.new.flows c.take_flow.result c.requires.limits c.requires.slacks
     (c.loop-pair.auto.flows ∙ c.requires.long) (c.take_flow.auto.flows ∙ c.loop-pair.auto.flows
     ∙ c.requires.long) c.loop-pair.invariant.small c.take_flow.ensures.small c.take_flow.ensures.sum in
-    room_for_sum _ _ (4 * 10 ^ 35) (4 * 10 ^ 35) sum (kept_small c.take_flow.result (4 * 10 ^ 35) part (omega arith))
-    (omega arith)
+    omega (arith, ints)
 
 pub loop-pair-preserved : goal.loop-pair-preserved
 loop-pair-preserved g c =
     let elements = g.P.Elements.elements in
     let p = c.in-Some.pair in
-    let at = place_here (length c.args.table.now) (elements c.loop-pair.left) (elements c.take_next.new.self) p
-    c.in-Some.ensures c.loop-pair.invariant.exist in
+    let exists = (pairs_apart (length c.args.table.now) (elements c.loop-pair.left)
+    (elements c.take_next.new.self) p c.in-Some.ensures c.loop-pair.invariant.exist).0 in
+    let at : p.cycle - 1 < length c.args.table.now = omega (arith, exists.0) in
     let read = nets_read c.args.table.now (p.cycle - 1) c.counts-counts.result.now c.index-table-pair.result at
     c.index-table-pair.is c.counts-counts.ensures in
+    let sum = part_small c.args.instance.now c.args.slacks.now c.args.weighted c.args.flows.now c.loop-pair.flows
+    (to_z w128 c.loop-pair.sum-bits) c.requires.limits c.requires.slacks c.requires.long
+    (c.loop-pair.auto.flows ∙ c.requires.long) c.requires.small c.loop-pair.invariant.small
+    c.loop-pair.invariant.sum_is in
     let part = part_small c.args.instance.now c.args.slacks.now c.args.weighted c.loop-pair.flows
     c.take_flow.new.flows c.take_flow.result c.requires.limits c.requires.slacks
     (c.loop-pair.auto.flows ∙ c.requires.long) (c.take_flow.auto.flows ∙ c.loop-pair.auto.flows
     ∙ c.requires.long) c.loop-pair.invariant.small c.take_flow.ensures.small c.take_flow.ensures.sum in
-    let e : to_z w128 (of_z w128 c.plus-sum.result) ≡ to_z w128 c.loop-pair.sum-bits +ℤ c.take_flow.result =
-    to_z-of_z w128 c.plus-sum.result (record { sfits = c.plus-sum.type_inv }) ∙ c.plus-sum.ensures.value
-    ∙ ap (λ z. to_z w128 c.loop-pair.sum-bits +ℤ z) (kept c.take_flow.result (4 * 10 ^ 35) part (omega arith)) in
+    let plus = c.plus-sum.ensures.value in
+    let e : to_z w128 (of_z w128 c.plus-sum.result) ≡ to_z w128 c.loop-pair.sum-bits +ℤ c.take_flow.result = omega (arith, ints) in
     left_more (arcs_of c.args.instance.now) c.args.slacks.now c.args.weighted c.args.table.now
     (elements c.loop-pair.left) (elements c.take_next.new.self) p c.args.flows.now c.loop-pair.flows _
     c.in-Some.ensures c.loop-pair.invariant
@@ -64,32 +64,3 @@ pub returns-clause-zeros : goal.returns-clause-zeros
 returns-clause-zeros g c = (left_all (arcs_of c.args.instance.now) c.args.slacks.now c.args.weighted
     c.args.table.now (g.P.Elements.elements c.loop-pair.left) c.args.flows.now c.loop-pair.flows _
     c.in_default.ensures c.loop-pair.invariant).1
-
-pub bounds-table-pair : goal.bounds-table-pair
-bounds-table-pair g c = place_here (length c.args.table.now) (g.P.Elements.elements c.loop-pair.left)
-    (g.P.Elements.elements c.take_next.new.self) c.in-Some.pair c.in-Some.ensures c.loop-pair.invariant.exist
-
-pub take_flow-requires-clause-counts : goal.take_flow-requires-clause-counts
-take_flow-requires-clause-counts g c =
-    let at = place_here (length c.args.table.now) (g.P.Elements.elements c.loop-pair.left)
-    (g.P.Elements.elements c.take_next.new.self) c.in-Some.pair c.in-Some.ensures c.loop-pair.invariant.exist in
-    counts_read (length c.args.flows.now) (length c.loop-pair.flows) c.args.table.now (c.in-Some.pair.cycle - 1)
-    c.index-table-pair.result c.counts-counts.result.now c.requires.table at c.index-table-pair.is
-    c.counts-counts.ensures c.loop-pair.auto.flows
-
-pub take_flow-requires-clause-small : goal.take_flow-requires-clause-small
-take_flow-requires-clause-small g c = c.loop-pair.invariant.small
-
-pub take_flow-requires-clause-slacks : goal.take_flow-requires-clause-slacks
-take_flow-requires-clause-slacks g c = c.requires.slacks
-
-pub take_flow-requires-clause-limits : goal.take_flow-requires-clause-limits
-take_flow-requires-clause-limits g c = c.requires.limits
-
-pub loop-pair-smaller : goal.loop-pair-smaller
-loop-pair-smaller g c = fewer_left (g.P.Elements.elements c.loop-pair.left)
-    (g.P.Elements.elements c.take_next.new.self) c.in-Some.pair c.in-Some.ensures
-
-pub overflow_sub-pair : goal.overflow_sub-pair
-overflow_sub-pair g c = (pairs_apart (length c.args.table.now) (g.P.Elements.elements c.loop-pair.left)
-    (g.P.Elements.elements c.take_next.new.self) c.in-Some.pair c.in-Some.ensures c.loop-pair.invariant.exist).0.0.0

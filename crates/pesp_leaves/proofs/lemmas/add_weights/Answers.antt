@@ -5,7 +5,6 @@ use Rattle.std.proofs.lemmas.Int.{ints}
 use Rattle.pesp_problem.specs.declared.pair.Pair.{Pair}
 use Rattle.pesp_problem.specs.Terms.{number_at}
 use Rattle.pesp_leaves.proofs.Adding.{so_far, weight_here, added_more, all_added, all_small}
-use Rattle.pesp_leaves.proofs.Naming.{place_named}
 use Rattle.pesp_leaves.proofs.Kept.{kept_short}
 use Rattle.pesp_leaves.proofs.lemmas.add_weights.Goals as goal
 
@@ -69,8 +68,3 @@ returns-clause-size c i l =
     all_small c.args.weights.now _ c.args.flows.now c.loop-pair.flows c.loop-pair.pair-index c.requires.limits
     (omega (arith, c.requires.mult, ap unsigned_abs m)) c.loop-pair.invariant i c.loop-pair-test.false
     (omega (arith, l, c.loop-pair.auto.flows))
-
-pub bounds-flows-at : goal.bounds-flows-at
-unfolding none
-bounds-flows-at c = place_named (length c.args.flows.now) (length c.loop-pair.flows) _
-    (c.requires.rows c.loop-pair.pair-index none c.loop-pair-test.true) c.loop-pair.auto.flows

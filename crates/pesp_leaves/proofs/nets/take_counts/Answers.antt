@@ -1,10 +1,7 @@
-use Rattle.std.proofs.Common.{◌≡◌, ◌≤◌, ◌∙◌, sym, arith, to_z, of_z, refl, get_or}
+use Rattle.std.proofs.Common.{◌≡◌, ◌<◌, ◌≤◌, ◌∙◌, ap, sym, arith, length, FitsSigned, to_z, of_z, refl, get_or}
 use Rattle.std.specs.Prelude.{pos, unsigned_abs}
 use Rattle.std.specs.Int.{w64, w128}
-use Rattle.std.proofs.lemmas.Int.{ints}
-use Rattle.pesp_leaves.proofs.Naming.{place_as}
-use Rattle.pesp_problem.proofs.Kept.{kept}
-use Rattle.pesp_leaves.proofs.Kept.{short_kept, short_fits}
+use Rattle.std.proofs.lemmas.Int.{ints, to_z-of_z}
 use Rattle.pesp_leaves.proofs.Collecting.{collected-none, collected-push, collected-skip, collected-all, all_zeros}
 use Rattle.pesp_leaves.proofs.nets.take_counts.Goals as goal
 use Rattle.pesp_leaves.proofs.nets.take_counts.Goals.{then-count-ne0+in_ok-push, else-count-ne0}
@@ -21,11 +18,14 @@ loop-place-preserved c =
     let at = get_or places k 0 in
     let so_far = c.loop-place.invariant in
     let named = c.requires.entered.inside k 0 c.loop-place-test.true in
-    let inside = place_as at (sym c.loop-place.auto.working) named in
-    let count : unsigned_abs c.take-count.result ≤ 10000000 = rw c.take-count.ensures.value (so_far.small at inside) in
-    let wide = kept c.take-count.result 10000000 count (omega arith) in
-    let narrow : to_z w64 (of_z w64 (to_z w128 (of_z w128 c.take-count.result))) ≡ c.take-count.result =
-    rw wide (short_kept c.take-count.result 10000000 count (omega arith)) in
+    let inside : at < length c.loop-place.working = omega (arith, named, c.loop-place.auto.working) in
+    let small = so_far.small at inside in
+    let count : unsigned_abs c.take-count.result ≤ 10000000 = omega (arith, ap unsigned_abs c.take-count.ensures.value) in
+    let wide_fits : FitsSigned w128 c.take-count.result = omega (arith, ints) in
+    let wide = to_z-of_z w128 c.take-count.result wide_fits in
+    let narrow_fits : FitsSigned w64 c.take-count.result = omega (arith, ints) in
+    let narrow : to_z w64 (of_z w64 (to_z w128 (of_z w128 c.take-count.result)))
+    ≡ c.take-count.result = rw wide (to_z-of_z w64 c.take-count.result narrow_fits) in
     elim c.if-count-ne0.branch [
       | then-count-ne0+in_ok-push w ↦
           (let items = w.in_ok-push.ensures.items in let n = w.counts-is in
@@ -48,17 +48,3 @@ returns-clause-counts c walk short are = collected-all c.args.places.now walk c.
 pub returns-clause-zeros : goal.returns-clause-zeros
 returns-clause-zeros c = all_zeros c.args.places.now c.args.working.now c.loop-place.working
     c.loop-place.counts.items c.loop-place.place-index c.loop-place-test.false c.loop-place.invariant
-
-pub take-count-requires : goal.take-count-requires
-take-count-requires c = place_as (get_or c.args.places.now c.loop-place.place-index 0) (sym c.loop-place.auto.working)
-    (c.requires.entered.inside c.loop-place.place-index 0 c.loop-place-test.true)
-
-pub overflow_cast-count : goal.overflow_cast-count
-overflow_cast-count c =
-    let at = get_or c.args.places.now c.loop-place.place-index 0 in
-    let inside = place_as at (sym c.loop-place.auto.working) (c.requires.entered.inside c.loop-place.place-index 0
-    c.loop-place-test.true) in
-    let count : unsigned_abs c.take-count.result ≤ 10000000 = rw c.take-count.ensures.value
-    (c.loop-place.invariant.small at inside) in
-    rw (kept c.take-count.result 10000000 count (omega arith)) (short_fits c.take-count.result 10000000 count
-    (omega arith))

@@ -8,7 +8,6 @@ use Rattle.pesp_problem.specs.declared.nets.NetCount.{NetCount}
 use Rattle.pesp_problem.specs.Nets.{sum_of}
 use Rattle.pesp_problem.specs.Ranges.{least_term, greatest_term}
 use Rattle.pesp_problem.proofs.Durations.{so_far_more, small_sum, least_is, greatest_is}
-use Rattle.pesp_leaves.proofs.Kept.{added_kept}
 use Rattle.pesp_leaves.proofs.Arcs.{nets_of_arcs}
 use Rattle.pesp_leaves.proofs.offsets.duration_sums.Goals as goal
 
@@ -50,13 +49,10 @@ loop-net-preserved c =
     c.loop-net.invariant.greatest in
     let e : to_z w128 (of_z w128 (to_z w128 c.loop-net.least-bits
     +ℤ to_z w128 (of_z w128 c.duration_terms-terms.result.0)))
-    ≡ to_z w128 c.loop-net.least-bits +ℤ c.duration_terms-terms.result.0 =
-    added_kept (to_z w128 c.loop-net.least-bits) c.duration_terms-terms.result.0 10100000000000 least (omega arith) in
+    ≡ to_z w128 c.loop-net.least-bits +ℤ c.duration_terms-terms.result.0 = omega (arith, ints) in
     let f : to_z w128 (of_z w128 (to_z w128 c.loop-net.greatest-bits
     +ℤ to_z w128 (of_z w128 c.duration_terms-terms.result.1)))
-    ≡ to_z w128 c.loop-net.greatest-bits +ℤ c.duration_terms-terms.result.1 =
-    added_kept (to_z w128 c.loop-net.greatest-bits) c.duration_terms-terms.result.1 10100000000000 greatest
-    (omega arith) in
+    ≡ to_z w128 c.loop-net.greatest-bits +ℤ c.duration_terms-terms.result.1 = omega (arith, ints) in
     record {
       least = rw e (so_far_more 1010000 _ c.args.counts.now c.loop-net.net-index none _ _ c.loop-net-test.true
           c.duration_terms-terms.ensures.least c.duration_terms-terms.ensures.least_size
@@ -79,10 +75,3 @@ returns-clause-greatest c walk nets =
     (take_all c.loop-net.net-index c.args.counts.now c.loop-net-test.false)
     ∙ greatest_is (arcs_of c.args.instance.now) c.args.slacks.now walk c.args.counts.now
     (nets_of_arcs c.args.instance.now walk c.args.counts.now nets)
-
-pub duration_terms-terms-requires-clause-slacks : goal.duration_terms-terms-requires-clause-slacks
-duration_terms-terms-requires-clause-slacks c = c.requires.slacks
-
-pub duration_terms-terms-requires-clause-exists : goal.duration_terms-terms-requires-clause-exists
-unfolding none
-duration_terms-terms-requires-clause-exists c = c.requires.counts.0 c.loop-net.net-index none c.loop-net-test.true

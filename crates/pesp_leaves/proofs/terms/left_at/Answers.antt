@@ -1,5 +1,5 @@
 use Rattle.std.proofs.Common.{arith, ap, unsigned_abs, ◌≤◌, ◌*◌, ◌^◌, ◌∙◌}
-use Rattle.pesp_problem.proofs.Kept.{kept}
+use Rattle.pesp_leaves.proofs.Kept.{kept}
 use Rattle.pesp_leaves.proofs.terms.left_at.Goals as goal
 
 pub returns-clause-value : goal.returns-clause-value

@@ -38,15 +38,3 @@ returns-else-is_plain-clause-value g c walks claim nets told =
     let goal = there.0 in
     let value = c.value_behind.ensures.value walks goal.weights nets there.2.weights_are in
     rw (there.1) value
-
-pub value_behind-requires-clause-named : goal.value_behind-requires-clause-named
-value_behind-requires-clause-named g c = rw c.in-Behind.is at c.requires.named
-
-pub value_behind-requires-clause-wide : goal.value_behind-requires-clause-wide
-value_behind-requires-clause-wide g c = rw c.in-Behind.is at c.requires.room
-
-pub value_behind-requires-clause-long : goal.value_behind-requires-clause-long
-value_behind-requires-clause-long g c = c.requires.long
-
-pub value_behind-requires-clause-cycles : goal.value_behind-requires-clause-cycles
-value_behind-requires-clause-cycles g c = c.requires.cycles

@@ -1,8 +1,7 @@
 use Rattle.std.proofs.Common.{◌≡◌, ◌≤◌, arith, rules, unsigned_abs, FitsSigned, to_z, of_z, get_or, ◌*ℤ◌, ◌+ℤ◌, pos}
 use Rattle.std.proofs.lemmas.Grind.{common_steps}
 use Rattle.std.specs.Int.{w64, w128}
-use Rattle.std.proofs.lemmas.Int.{ints, fits_signed_from_abs}
-use Rattle.pesp_problem.proofs.Kept.{long_small, room_for_product}
+use Rattle.std.proofs.lemmas.Int.{ints}
 use Rattle.pesp_nodes.specs.declared.passages.Passage.{Passage}
 use Rattle.pesp_nodes.specs.Passages.{mult_of}
 use Rattle.pesp_nodes.proofs.Flows.{flow_small, flow_more, count_small}
@@ -53,17 +52,3 @@ returns-clause-value c = grind (arith, common_steps)
 
 pub returns-clause-size : goal.returns-clause-size
 returns-clause-size c = grind (arith, common_steps)
-
-pub times-requires : goal.times-requires
-unfolding none
-times-requires c =
-    let size = c.mult_of-mult.ensures.size in
-    let count =
-    count_small c.args.passages.now c.loop-passage.passage-index none c.loop-passage-test.true c.requires.small in
-    room_for_product _ _ 1000000000000 10000000
-    (long_small c.from.result c.mult_of-mult.result 1000000000000
-    (fits_signed_from_abs w64 c.mult_of-mult.result (omega (arith, size))) c.from.ensures size)
-    (long_small c.from-in-loop-passage.result _ 10000000
-    (fits_signed_from_abs w64 (get_or c.args.passages.now c.loop-passage.passage-index none).count
-    (omega (arith, count)))
-    c.from-in-loop-passage.ensures count) (omega arith)

@@ -6,7 +6,7 @@ use Rattle.std.proofs.lemmas.Int.{ints, to_z-of_z}
 use Rattle.pesp_problem.specs.declared.nets.NetCount.{NetCount}
 use Rattle.pesp_problem.specs.Terms.{number_at}
 use Rattle.pesp_problem.proofs.Durations.{small_count}
-use Rattle.pesp_problem.proofs.Flowing.{added_none, added_more, added_small}
+use Rattle.pesp_problem.proofs.Flowing.{added_more, added_small}
 use Rattle.pesp_problem.proofs.flows.add_flow.Goals as goal
 
 none : NetCount
@@ -66,14 +66,3 @@ returns-clause-size c i l =
 
 pub returns-clause-sum : goal.returns-clause-sum
 returns-clause-sum c = grind (arith, common_steps)
-
-pub loop-net-init : goal.loop-net-init
-loop-net-init c = added_none c.args.counts.now _ c.args.flows.now
-
-pub product-requires-clause-mult : goal.product-requires-clause-mult
-product-requires-clause-mult c = rw (to_z-of_z w64 c.args.mult c.ranges.mult) c.requires.mult
-
-pub bounds-flows-at : goal.bounds-flows-at
-unfolding none
-bounds-flows-at c =
-    omega (arith, c.requires.counts.0 c.loop-net.net-index none c.loop-net-test.true, c.loop-net.auto.flows)

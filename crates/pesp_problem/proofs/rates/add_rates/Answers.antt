@@ -1,12 +1,11 @@
-use Rattle.std.proofs.Common.{arith, unsigned_abs, FitsSigned, to_z, of_z, get_or, true, false, ◌≡◌, ◌≤◌, ◌<◌, ◌+◌, ◌-◌, ◌*◌, ◌^◌, length, sym, ◌∙◌, subst}
+use Rattle.std.proofs.Common.{arith, unsigned_abs, FitsSigned, to_z, of_z, get_or, true, false, ◌≡◌, ◌≤◌, ◌<◌, ◌+◌, ◌-◌, ◌*◌, ◌^◌, length, subst}
 use Rattle.std.specs.Prelude.{ℤ, pos, ◌+ℤ◌, ◌*ℤ◌}
 use Rattle.std.specs.Int.{w64, w128}
 use Rattle.std.proofs.lemmas.Int.{ints, to_z-of_z}
 use Rattle.pesp_problem.specs.declared.marked.MarkedRow.{MarkedRow}
 use Rattle.pesp_problem.specs.Marked.{walk_sum, rate}
 use Rattle.pesp_problem.specs.Rates.{rates_at, rate_of, passed}
-use Rattle.pesp_problem.proofs.Kept.{kept, kept_small, long_kept, long_small, room_for_product}
-use Rattle.pesp_problem.proofs.Passes.{rated_none, rated_more, rated_all}
+use Rattle.pesp_problem.proofs.Passes.{rated_more, rated_all}
 use Rattle.pesp_problem.proofs.rates.add_rates.Goals as goal
 
 none : MarkedRow
@@ -24,10 +23,10 @@ more-next-requires-clause-plain c =
     c.loop-s.invariant.size (s.signed.row - 1) false at in
     let first : unsigned_abs (rates_at c.args.rates.now (s.signed.row - 1)).plain
     ≤ 99999 * 10 ^ 23 = c.requires.small (s.signed.row - 1) false first_at in
-    let m = long_small c.from.result c.args.mult 1000000000000 c.ranges.mult c.from.ensures c.requires.mult in
-    let r = kept_small c.rate.result 10000 c.rate.ensures.size (omega arith) in
+    let m : unsigned_abs (to_z w128 (of_z w128 c.from.result)) ≤ 1000000000000 = omega (arith, ints) in
+    let r : unsigned_abs (to_z w128 (of_z w128 c.rate.result)) ≤ 10000 = omega (arith, ints) in
     let by = c.times-by.ensures.size 1000000000000 10000 m r in
-    let by_small = kept_small c.times-by.result (10 ^ 16) by (omega arith) in
+    let by_small : unsigned_abs (to_z w128 (of_z w128 c.times-by.result)) ≤ 10 ^ 16 = omega (arith, ints) in
     omega (arith, old, first, by_small, c.loop-s-test.true, c.requires.short)
 
 pub more-next-requires-clause-flipped : goal.more-next-requires-clause-flipped
@@ -42,10 +41,10 @@ more-next-requires-clause-flipped c =
     c.loop-s.invariant.size (s.signed.row - 1) true at in
     let first : unsigned_abs (rates_at c.args.rates.now (s.signed.row - 1)).flipped
     ≤ 99999 * 10 ^ 23 = c.requires.small (s.signed.row - 1) true first_at in
-    let m = long_small c.from.result c.args.mult 1000000000000 c.ranges.mult c.from.ensures c.requires.mult in
-    let r = kept_small c.rate.result 10000 c.rate.ensures.size (omega arith) in
+    let m : unsigned_abs (to_z w128 (of_z w128 c.from.result)) ≤ 1000000000000 = omega (arith, ints) in
+    let r : unsigned_abs (to_z w128 (of_z w128 c.rate.result)) ≤ 10000 = omega (arith, ints) in
     let by = c.times-by.ensures.size 1000000000000 10000 m r in
-    let by_small = kept_small c.times-by.result (10 ^ 16) by (omega arith) in
+    let by_small : unsigned_abs (to_z w128 (of_z w128 c.times-by.result)) ≤ 10 ^ 16 = omega (arith, ints) in
     omega (arith, old, first, by_small, c.loop-s-test.true, c.requires.short)
 
 pub loop-s-preserved : goal.loop-s-preserved
@@ -55,14 +54,13 @@ loop-s-preserved c =
     let exists = c.requires.exist c.loop-s.s-index none c.loop-s-test.true in
     let at : s.signed.row - 1 < length c.loop-s.rates = omega (arith, exists, c.loop-s.auto.rates) in
     let is : s.signed.row ≡ (s.signed.row - 1) + 1 = omega (arith, exists) in
-    let m = long_small c.from.result c.args.mult 1000000000000 c.ranges.mult c.from.ensures c.requires.mult in
-    let r = kept_small c.rate.result 10000 c.rate.ensures.size (omega arith) in
+    let m : unsigned_abs (to_z w128 (of_z w128 c.from.result)) ≤ 1000000000000 = omega (arith, ints) in
+    let r : unsigned_abs (to_z w128 (of_z w128 c.rate.result)) ≤ 10000 = omega (arith, ints) in
     let by = c.times-by.ensures.size 1000000000000 10000 m r in
-    let by_small = kept_small c.times-by.result (10 ^ 16) by (omega arith) in
-    let mult : to_z w128 (of_z w128 c.from.result) ≡ to_z w64 (of_z w64 c.args.mult) =
-    long_kept c.from.result c.args.mult c.ranges.mult c.from.ensures ∙ sym (to_z-of_z w64 c.args.mult c.ranges.mult) in
-    let rated = kept c.rate.result 10000 c.rate.ensures.size (omega arith) in
-    let by_is = kept c.times-by.result (10 ^ 16) by (omega arith) in
+    let by_small : unsigned_abs (to_z w128 (of_z w128 c.times-by.result)) ≤ 10 ^ 16 = omega (arith, ints) in
+    let mult : to_z w128 (of_z w128 c.from.result) ≡ to_z w64 (of_z w64 c.args.mult) = omega (arith, ints) in
+    let rated : to_z w128 (of_z w128 c.rate.result) ≡ c.rate.result = omega (arith, ints) in
+    let by_is : to_z w128 (of_z w128 c.times-by.result) ≡ c.times-by.result = omega (arith, ints) in
     let product = c.times-by.ensures.value in
     let value = c.rate.ensures.value in
     let e : to_z w128 (of_z w128 c.times-by.result) ≡ to_z w64 (of_z w64 c.args.mult) *ℤ pos (rate c.args.period c.args.alpha s) = cc in
@@ -81,18 +79,3 @@ returns-clause-sum c i flipped l =
     subst P (to_z-of_z w64 c.args.mult fits) (rated_all c.args.period c.args.alpha c.args.walk.now
     (to_z w64 (of_z w64 c.args.mult)) c.args.rates.now c.loop-s.rates c.loop-s.s-index i flipped
     c.loop-s-test.false l' c.loop-s.invariant)
-
-pub times-by-requires : goal.times-by-requires
-times-by-requires c = room_for_product _ _ 1000000000000 10000
-    (long_small c.from.result c.args.mult 1000000000000 c.ranges.mult c.from.ensures c.requires.mult)
-    (kept_small c.rate.result 10000 c.rate.ensures.size (omega arith)) (omega arith)
-
-pub loop-s-init : goal.loop-s-init
-loop-s-init c = rated_none c.args.period c.args.alpha c.args.walk.now _ c.args.rates.now
-
-pub returns-clause-size : goal.returns-clause-size
-returns-clause-size c i flipped l =
-    let size = c.loop-s.invariant.size i flipped (omega (arith, c.loop-s.auto.rates, l)) in
-    let end = c.loop-s.auto.s-index-end in
-    let short = c.requires.short in
-    omega (arith, size, end, short)

@@ -6,7 +6,7 @@ use Rattle.pesp_network.specs.declared.row.NetRow.{NetRow}
 use Rattle.pesp_network.specs.Networks.{arcs_of_network}
 use Rattle.pesp_reduce.specs.LiftedWalks.{original_row, passed_at, row_after}
 use Rattle.pesp_reduce.proofs.Lists.{arcs_length}
-use Rattle.pesp_reduce.proofs.LiftedWalks.{IsLiftedUpTo, IsContractedWay, passed_exists, after_exists, original_exists, original_ends, gap_joined, contracted_way_of, lifted_none, lifted_more, lifted_all}
+use Rattle.pesp_reduce.proofs.LiftedWalks.{IsLiftedUpTo, IsContractedWay, passed_exists, after_exists, original_exists, original_ends, gap_joined, contracted_way_of, lifted_more, lifted_all}
 use Rattle.pesp_reduce.proofs.walks.lifted.Goals as goal
 
 named : (rows : List NetRow) (s : SignedRow) → RowExists (arcs_of_network rows) s → Names (length rows) s.row
@@ -125,14 +125,3 @@ returns c =
     let v = c.loop-i.invariant in
     let ends : c.loop-i.i ≡ length walk = let t = c.loop-i-test.false in let a = c.loop-i.auto.i-end in omega arith in
     lifted_all c.args.whole.now c.args.contraction.now c.args.left.now walk c.loop-i.i c.loop-i.made.items c.requires.walk ends v
-
-pub loop-i-init : goal.loop-i-init
-loop-i-init c = rw c.new-made.ensures.items
-    (lifted_none c.args.whole.now c.args.contraction.now c.args.left.now c.args.walk.now)
-
-pub original_row-passed-requires : goal.original_row-passed-requires
-original_row-passed-requires c =
-    let left = c.args.left.now in
-    let walk = c.args.walk.now in
-    let i = c.loop-i.i in
-    named left (passed_at walk i) (passed_exists (arcs_of_network left) walk i c.requires.walk c.loop-i-test.true)

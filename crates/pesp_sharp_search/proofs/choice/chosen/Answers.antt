@@ -1,9 +1,5 @@
-use Rattle.std.proofs.Common.{rules}
 use Rattle.pesp_sharp_search.proofs.Choices.{plain_whole}
 use Rattle.pesp_sharp_search.proofs.choice.chosen.Goals as goal
 
 pub returns-in-None : goal.returns-in-None
 returns-in-None c = plain_whole c.args.instance.now c.args.plain c.args.steps c.requires
-
-pub returns-in-Some : goal.returns-in-Some
-returns-in-Some c = search rules

@@ -1,4 +1,4 @@
-use Rattle.std.proofs.Common.{refl, inl, rules}
+use Rattle.std.proofs.Common.{refl, inl}
 use Rattle.pesp_sharp_work.proofs.Keeping.{base_keeps}
 use Rattle.pesp_sharp_search.proofs.open_work.worked.Goals as goal
 
@@ -7,6 +7,3 @@ returns-in_default c = (inl refl, base_keeps c.args.instance.now c.args.base c.a
 
 pub returns-in-Ok-false : goal.returns-in-Ok-false
 returns-in-Ok-false c = (inl refl, base_keeps c.args.instance.now c.args.base c.args.jobs.now c.args.until)
-
-pub returns-in-Ok-true : goal.returns-in-Ok-true
-returns-in-Ok-true c = search rules

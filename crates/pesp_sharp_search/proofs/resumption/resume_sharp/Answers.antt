@@ -1,9 +1,5 @@
-use Rattle.std.proofs.Common.{rules}
 use Rattle.pesp_sharp_search.proofs.Choices.{base_stands}
 use Rattle.pesp_sharp_search.proofs.resumption.resume_sharp.Goals as goal
 
 pub returns-in-None : goal.returns-in-None
 returns-in-None g c = base_stands c.args.instance.now c.args.base c.args.steps c.requires
-
-pub returns-in-Some : goal.returns-in-Some
-returns-in-Some g c = search rules

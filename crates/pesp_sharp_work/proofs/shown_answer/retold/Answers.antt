@@ -1,4 +1,4 @@
-use Rattle.std.proofs.Common.{◌≡◌, ◌∙◌, rules}
+use Rattle.std.proofs.Common.{◌≡◌, ◌∙◌}
 use Rattle.pesp_cert.specs.Fronted.{Fronted}
 use Rattle.pesp_whole_check.specs.Costs.{shown_of}
 use Rattle.pesp_sharp_work.proofs.Retelling.{again_costs, again}
@@ -23,6 +23,3 @@ returns c =
     c.answer-answer.result c.cost-cost.result c.least_shown-least.result c.deref.result.now c.answer_of.result
     c.answer-answer.ensures.value c.cost-cost.ensures (c.deref.ensures.value ∙ shown) c.least_shown-least.ensures
     c.answer_of.ensures c.in_ok-certificate.certificate c.in_ok-certificate.ensures)
-
-pub returns-then-is_same : goal.returns-then-is_same
-returns-then-is_same c = search rules

@@ -1,8 +1,5 @@
-use Rattle.std.proofs.Common.{get_or, ◌/◌}
-use Rattle.std.proofs.lemmas.Nat.{and_le_l}
 use Rattle.pesp_truth.proofs.Removing.{gone, others}
 use Rattle.pesp_truth.proofs.Placing.{place_within}
-use Rattle.pesp_truth.proofs.Words.{less_set}
 use Rattle.pesp_truth.proofs.bits.remove.Goals as goal
 
 pub returns-clause-gone : goal.returns-clause-gone
@@ -26,10 +23,3 @@ bounds-words-place c = place_within c.args.words.now c.args.period c.args.event 
 pub bounds-words-place-2 : goal.bounds-words-place-2
 bounds-words-place-2 c = place_within c.args.words.now c.args.period c.args.event c.args.difference _
     c.requires.difference c.requires.long c.place_of-place.ensures
-
-pub returns-clause-less : goal.returns-clause-less
-returns-clause-less c =
-    let place = c.place_of-place.result in
-    less_set c.args.words.now (place / 64) _ (place_within c.args.words.now c.args.period c.args.event
-    c.args.difference _ c.requires.difference c.requires.long c.place_of-place.ensures)
-    (and_le_l (get_or c.args.words.now (place / 64) 0) _)

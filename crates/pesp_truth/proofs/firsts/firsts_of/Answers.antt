@@ -1,4 +1,4 @@
-use Rattle.std.proofs.Common.{◌≡◌, ◌∙◌, sym, subst, arith, ap, length, ℕ, List}
+use Rattle.std.proofs.Common.{◌≡◌, sym, subst, arith, ap, length, ℕ, List}
 use Rattle.std.specs.Prelude.{slice_index}
 use Rattle.pesp_problem.specs.Forests.{IsFirstOf}
 use Rattle.pesp_truth.proofs.Labelling.{whole}
@@ -15,9 +15,3 @@ returns-clause-firsts c = λ event l.
       ap length c.deref_mut.ensures.value,
       c.in_ok-labels.ensures.long,
     )))
-
-pub returns-clause-long : goal.returns-clause-long
-returns-clause-long c =
-    let v = c.in_ok-labels.labels in
-    ap length (whole v.len v.items c.join_rows.new.labels (c.join_rows.auto.labels ∙ c.deref_mut.ensures.len))
-    ∙ c.join_rows.auto.labels ∙ ap length c.deref_mut.ensures.value ∙ c.in_ok-labels.ensures.long

@@ -1,6 +1,5 @@
 use Rattle.std.proofs.Common.{◌≡◌, arith, refl, ◌+◌, ◌-◌, ◌<◌, subst, ℕ}
 use Rattle.pesp_problem.proofs.Words.{less_step}
-use Rattle.pesp_truth.proofs.Words.{less_none}
 use Rattle.pesp_truth.specs.Sets.{family_at}
 use Rattle.pesp_truth.proofs.Narrowing.{IsGap, Partly, whole, gap_first, none_yet, all_places, gap_step, partly_step}
 use Rattle.pesp_truth.proofs.narrow.narrow.Goals as goal
@@ -22,7 +21,7 @@ loop-step-init c =
       partly = subst (λ m. Partly t c.args.kept c.args.other c.args.window.first c.args.window.count m
           (family_at t c.args.words.now) (family_at t c.args.words.now)) e
           (none_yet t c.args.kept c.args.other c.args.window.first c.args.window.count (family_at t c.args.words.now));
-      less = less_none c.args.words.now;
+      less = record { same = λ _. refl; less = λ e. absurd (cc) };
     }
 
 pub loop-step-preserved : goal.loop-step-preserved

@@ -1,4 +1,4 @@
-use Rattle.std.proofs.Common.{◌≡◌, ◌⊎◌, inl, inr, rules}
+use Rattle.std.proofs.Common.{◌≡◌, ◌⊎◌, inl, inr}
 use Rattle.pesp_tree.specs.declared.refusal.GiveRefusal.TheVariants.{NotValid, Memory, TooLarge}
 use Rattle.pesp_branching.proofs.Replies.{refused_for_room}
 use Rattle.pesp_turns.proofs.handed_work.hand_in.Goals as goal
@@ -13,6 +13,3 @@ unreachable-requires-in-Err-NotValid c =
     never (refused_for_room c.args.board.now.problem c.args.board.now.state c.args.job.now.number
     c.args.job.now.path.items c.requires.pairs c.args.work.now NotValid c.requires.leaf c.requires.valid
     refused.1)
-
-pub returns-in-Err-TooLarge-clause-given : goal.returns-in-Err-TooLarge-clause-given
-returns-in-Err-TooLarge-clause-given c = search rules

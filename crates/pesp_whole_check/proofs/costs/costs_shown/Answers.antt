@@ -1,8 +1,4 @@
-use Rattle.std.proofs.Common.{◌≡◌, ◌++◌, ℕ, take, arith, ◌∙◌, refl, ap, sym, subst, List, length}
-use Rattle.std.specs.Prelude.{ℤ}
-use Rattle.std.proofs.Math.Seq.{take-append_seam}
-use Rattle.pesp_problem.specs.Nets.{AreZeros}
-use Rattle.pesp_problem.specs.Timetables.{Pesp}
+use Rattle.std.proofs.Common.{arith, ◌∙◌, refl, ap, sym, subst, List, length}
 use Rattle.pesp_problem.specs.Arcs.{net_of}
 use Rattle.pesp_problem.specs.Nodes.{root}
 use Rattle.pesp_truth.specs.Marks.{Marks}
@@ -10,15 +6,10 @@ use Rattle.pesp_truth.specs.Lemmas.{Lemma}
 use Rattle.pesp_truth.specs.Certificates.{claim_of, least_of, lines_of}
 use Rattle.pesp_leaves.specs.Taken.{HaveRows}
 use Rattle.pesp_whole_check.specs.Rooms.{AreOwnWeights, FitsWalks}
-use Rattle.pesp_whole_check.proofs.Limits.{small_counts}
 use Rattle.pesp_whole_check.proofs.Inner.{if_behind}
 use Rattle.pesp_whole_check.proofs.Valid.{front_rows, shown_lemmas, shown_closed}
 use Rattle.pesp_whole_check.proofs.Claims.{for_marks, front_fits, own_weights_there, room_there, told_there, least_few}
 use Rattle.pesp_whole_check.proofs.costs.costs_shown.Goals as goal
-
--- what is written back is all that stands there
-written : (n : ℕ) (new rest : List ℤ) → length new ≡ n → take n (new ++ rest) ≡ new
-written n new rest e = let P : ℕ → Type 0 = λ k. take k (new ++ rest) ≡ new in subst P e (take-append_seam new rest)
 
 pub table_of-requires-clause-walks : goal.table_of-requires-clause-walks
 table_of-requires-clause-walks c = (rw (← c.certificate.view_is) at c.requires).cycles
@@ -74,32 +65,3 @@ tree_costs-requires-clause-room c =
 
 pub returns : goal.returns
 returns c = rw (← c.certificate.view_is) (rw c.new-checker.ensures.instance at c.in_ok-shown.ensures)
-
-pub tree_costs-requires-clause-zeros : goal.tree_costs-requires-clause-zeros
-tree_costs-requires-clause-zeros c =
-    let P : List ℤ → Type 0 = AreZeros in
-    subst P (sym (c.deref_mut-2.ensures.value
-    ∙ written _ c.table_of.new.working _ (c.table_of.auto.working ∙ c.deref_mut.ensures.len)))
-    c.in_ok-table.ensures.zeros
-
-pub tree_costs-requires-clause-long : goal.tree_costs-requires-clause-long
-tree_costs-requires-clause-long c =
-    ap length (c.deref_mut-2.ensures.value ∙ written _ c.table_of.new.working _ (c.table_of.auto.working
-    ∙ c.deref_mut.ensures.len)) ∙ c.table_of.auto.working ∙ ap length c.deref_mut.ensures.value
-    ∙ c.in_ok-working.ensures.long ∙ ap length c.rows.ensures.rows ∙ sym (ap (λ (p : Pesp). length p.rows)
-    c.new-checker.ensures.instance)
-
-pub table_of-requires-clause-long : goal.table_of-requires-clause-long
-table_of-requires-clause-long c = ap length c.deref_mut.ensures.value ∙ c.in_ok-working.ensures.long
-    ∙ ap length c.rows.ensures.rows
-
-pub new-checker-requires-clause-small : goal.new-checker-requires-clause-small
-new-checker-requires-clause-small c = small_counts (length c.args.instance.now.rows)
-    c.certificate.inside.certificate.cycles c.deref-4.result.now (rw c.deref-4.ensures.value c.in_ok-table.ensures.nets)
-
-pub tree_costs-requires-clause-nets : goal.tree_costs-requires-clause-nets
-tree_costs-requires-clause-nets c = rw (
-  c.new-checker.ensures.instance,
-  c.new-checker.ensures.table,
-  c.deref-4.ensures.value,
-) c.in_ok-table.ensures.nets

@@ -1,14 +1,13 @@
-use Rattle.std.proofs.Common.{ℕ, refl, ◌≡◌, ◌<◌, sym, subst, ◌∷◌, [], length, get_or}
+use Rattle.std.proofs.Common.{◌≡◌, ◌<◌, sym, subst, ◌∷◌, [], length, get_or}
 use Rattle.pesp_problem.specs.Arcs.{net_of}
 use Rattle.pesp_problem.specs.Nodes.{root}
 use Rattle.pesp_truth.specs.declared.tree.TreeLine.{TreeLine}
 use Rattle.pesp_truth.specs.Trees.{Line}
 use Rattle.pesp_truth.specs.Certificates.{claim_of, least_of}
-use Rattle.pesp_leaves.specs.Claims.{HasRoom}
 use Rattle.pesp_judges.specs.Lines.{after, KeepsLineLimits}
 use Rattle.pesp_whole_check.proofs.Limits.{line_limits}
 use Rattle.pesp_whole_check.specs.Costs.{line_shows, LineIsNamed}
-use Rattle.pesp_whole_check.proofs.Shown.{next_named, next_waits, none_shown, one_shown, all_shown}
+use Rattle.pesp_whole_check.proofs.Shown.{next_named, one_shown}
 use Rattle.pesp_whole_check.proofs.costs.tree_costs.Goals as goal
 
 pub pass_line-requires-clause-named : goal.pass_line-requires-clause-named
@@ -20,8 +19,7 @@ pass_line-requires-clause-named c =
     let tree = c.args.certificate.now.tree in
     let k = c.loop-line.line-index in
     let within : k < length tree = rw c.tree-line-items.ensures.value at c.loop-line-test.true in
-    let is : c.line-item.result ≡ get_or tree k c.line-item.result = rw c.tree-line-items.ensures.value at
-    c.line-item.is in
+    let is : c.line-item.result ≡ get_or tree k c.line-item.result = rw c.tree-line-items.ensures.value at c.line-item.is in
     let cycles = length c.args.checker.now.table.now in
     let P : Line → Type 0 = LineIsNamed told (length p.rows) cycles in
     subst P (sym c.said_by.ensures.line) (next_named p table told claim c.requires.told tree (root (net_of p) table ∷ []) k
@@ -33,8 +31,7 @@ pass_line-requires-clause-limits c =
     let tree = c.args.certificate.now.tree in
     let k = c.loop-line.line-index in
     let within : k < length tree = rw c.tree-line-items.ensures.value at c.loop-line-test.true in
-    let is : c.line-item.result ≡ get_or tree k c.line-item.result = rw c.tree-line-items.ensures.value at
-    c.line-item.is in
+    let is : c.line-item.result ≡ get_or tree k c.line-item.result = rw c.tree-line-items.ensures.value at c.line-item.is in
     let P : TreeLine → Type 0 = KeepsLineLimits in
     c.said_by.ensures.limits (subst P (sym is)
     (line_limits tree c.tree-line-items.ensures.limits.each_line k c.line-item.result within))
@@ -47,8 +44,7 @@ loop-line-preserved c =
     let table = c.args.certificate.now.cycles in
     let k = c.loop-line.line-index in
     let within : k < length tree = rw c.tree-line-items.ensures.value at c.loop-line-test.true in
-    let is : c.line-item.result ≡ get_or tree k c.line-item.result = rw c.tree-line-items.ensures.value at
-    c.line-item.is in
+    let is : c.line-item.result ≡ get_or tree k c.line-item.result = rw c.tree-line-items.ensures.value at c.line-item.is in
     let passed = c.in_ok-cost.ensures in
     let here = passed.shown table claim c.requires.nets c.requires.told in
     let V : Line → Type 0 = λ l. c.in_ok-cost.cost ≡ line_shows claim (net_of p) table l here.0 in
@@ -63,44 +59,3 @@ loop-line-preserved c =
           (subst V c.said_by.ensures.line here.3) (subst N c.said_by.ensures.line passed.nodes)
           c.in_ok-push.ensures.items;
     }
-
-pub pass_line-requires-clause-waits : goal.pass_line-requires-clause-waits
-pass_line-requires-clause-waits c =
-    let p = c.args.checker.now.instance.now in
-    let claim = claim_of c.args.front.now (net_of p) (least_of c.args.certificate.now.answer) in
-    let table = c.args.certificate.now.cycles in
-    let tree = c.args.certificate.now.tree in
-    let k = c.loop-line.line-index in
-    let within : k < length tree = rw c.tree-line-items.ensures.value at c.loop-line-test.true in
-    let is : c.line-item.result ≡ get_or tree k c.line-item.result = rw c.tree-line-items.ensures.value at
-    c.line-item.is in
-    next_waits p table claim tree (root (net_of p) table ∷ []) k c.loop-line.walk.nodes c.loop-line.shown.items
-    c.loop-line.invariant.shown c.line-item.result within is
-
-pub pass_line-requires-clause-room : goal.pass_line-requires-clause-room
-pass_line-requires-clause-room c =
-    let P : ℕ → Type 0 = HasRoom c.args.checker.now.claim (length c.args.checker.now.instance.now.rows) in
-    subst P (sym c.loop-line.auto.rates) c.requires.room
-
-pub loop-line-init : goal.loop-line-init
-loop-line-init c =
-    let p = c.args.checker.now.instance.now in
-    let claim = claim_of c.args.front.now (net_of p) (least_of c.args.certificate.now.answer) in
-    let table = c.args.certificate.now.cycles in
-    record {
-      problem = rw c.new-walk.ensures refl;
-      cycles = rw c.new-walk.ensures c.in_ok-ranges.ensures.cycles;
-      zeros = c.requires.zeros;
-      shown = rw (c.new-walk.ensures, c.in_ok-ranges.ensures.node table c.requires.nets, c.new-shown.ensures.items)
-          (none_shown p table claim c.args.certificate.now.tree (root (net_of p) table ∷ []) c.requires.sound);
-    }
-
-pub returns : goal.returns
-returns c =
-    let p = c.args.checker.now.instance.now in
-    let claim = claim_of c.args.front.now (net_of p) (least_of c.args.certificate.now.answer) in
-    let table = c.args.certificate.now.cycles in
-    let tree = c.args.certificate.now.tree in
-    let k = c.loop-line.line-index in
-    all_shown p table claim tree (root (net_of p) table ∷ []) k c.loop-line.walk.nodes c.loop-line.shown.items
-    c.loop-line.invariant.shown (rw c.tree-line-items.ensures.value at c.loop-line-test.false)

@@ -64,21 +64,3 @@ returns-clause-verdict c =
     let inv = c.loop-lemma.invariant in
     let all = take_all c.loop-lemma.lemma-index c.args.lemmas.now c.loop-lemma-test.false in
     (inv.facts ∙ ap lemmas_of all, subst (λ (ss : List LemmaProof). AreShownLemmas (net_of c.args.instance.now) [] ss) all inv.shown)
-
-pub lemma_lines-line-requires : goal.lemma_lines-line-requires
-lemma_lines-line-requires c =
-    let P : LemmaProof → Type 0 = λ s. is_shown_lemma s ≡ true in
-    subst P (sym c.lemma-item.is)
-    (each_lemma c.args.lemmas.now c.requires.limits c.loop-lemma.lemma-index c.lemma-item.result c.loop-lemma-test.true)
-
-pub overflow_add-line : goal.overflow_add-line
-overflow_add-line c =
-    let few = few_lemmas c.args.lemmas.now c.requires.limits in
-    omega (
-      arith,
-      few,
-      c.loop-lemma.invariant.few,
-      c.loop-lemma-test.true,
-      c.requires.line,
-      c.lemma_lines-line.ensures.few,
-    )

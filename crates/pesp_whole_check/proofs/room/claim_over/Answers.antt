@@ -1,11 +1,11 @@
 use Rattle.std.proofs.Common.{refl}
 use Rattle.pesp_problem.specs.Arcs.{net_of}
 use Rattle.pesp_truth.specs.Trees.{cost_goal}
-use Rattle.pesp_whole_check.proofs.Claims.{plain_fits, plain_from, shown_fits, told_of}
+use Rattle.pesp_whole_check.proofs.Claims.{plain_from, shown_fits, told_of}
 use Rattle.pesp_whole_check.proofs.room.claim_over.Goals as goal
 
 pub returns-in_default-clause-fits : goal.returns-in_default-clause-fits
-returns-in_default-clause-fits c p rows fits = plain_fits p c.args.least
+returns-in_default-clause-fits c p rows fits = λ s is. absurd cc
 
 pub returns-in_default-clause-told : goal.returns-in_default-clause-told
 returns-in_default-clause-told c p own few =

@@ -1,9 +1,6 @@
-use Rattle.std.proofs.Common.{◌≤◌, ◌∙◌, inr, sym, subst, arith, List, length, Option}
+use Rattle.std.proofs.Common.{◌∙◌, inr, sym, subst, arith, List, length, Option}
 use Rattle.std.proofs.lemmas.Grind.{common_steps}
 use Rattle.std.proofs.lemmas.Result.{IfOk-weaker}
-use Rattle.pesp_problem.specs.declared.limits.TheConstants.{MOST_CYCLES, MOST_SIGNED_ROWS}
-use Rattle.pesp_problem.specs.declared.walk.Walk.{Walk}
-use Rattle.pesp_cert.specs.Limits.{total_rows}
 use Rattle.pesp_truth.specs.Lemmas.{Lemma as Fact}
 use Rattle.pesp_leaves.specs.Taken.{HaveRows}
 use Rattle.pesp_judges.specs.declared.refusal.Refusal.{Refusal}
@@ -51,19 +48,3 @@ returns-in-Ok c =
     (λ inner. valid_there front p content c.own_line-line.ensures.limits c.requires.shown period answer cycles inner.0 inner.1)
     (λ refusal fault. inner_refused p content refusal front c.requires.shown period answer cycles c.times-times.ensures.limits.whole fault) h)
     c.inner_fault.ensures
-
-pub judge_cycles-requires-clause-rows : goal.judge_cycles-requires-clause-rows
-judge_cycles-requires-clause-rows c =
-    let P : List Walk → Type 0 = λ walks. total_rows walks ≤ MOST_SIGNED_ROWS in
-    subst P (sym c.cycles.ensures.value) c.cycles.ensures.limits.rows
-
-pub judge_cycles-requires-clause-few : goal.judge_cycles-requires-clause-few
-judge_cycles-requires-clause-few c =
-    let P : List Walk → Type 0 = λ walks. length walks ≤ MOST_CYCLES in
-    subst P (sym c.cycles.ensures.value) c.cycles.ensures.limits.cycles
-
-pub judge_cycles-requires-clause-long : goal.judge_cycles-requires-clause-long
-judge_cycles-requires-clause-long c = c.requires.long
-
-pub inner_fault-requires-clause-long : goal.inner_fault-requires-clause-long
-inner_fault-requires-clause-long c = c.judge_cycles.auto.working ∙ c.requires.long

@@ -1,14 +1,12 @@
-use Rattle.std.proofs.Common.{◌≤◌, ◌∙◌, arith, refl, ap, sym, subst, List, length}
+use Rattle.std.proofs.Common.{◌∙◌, arith, refl, ap, sym, subst, List, length}
 use Rattle.std.specs.Prelude.{All}
-use Rattle.pesp_problem.specs.declared.limits.TheConstants.{MOST_LINES}
-use Rattle.pesp_problem.specs.Timetables.{Pesp}
 use Rattle.pesp_problem.specs.Arcs.{net_of}
 use Rattle.pesp_truth.specs.declared.tree.TreeLine.{TreeLine}
 use Rattle.pesp_truth.specs.Marks.{Marks}
 use Rattle.pesp_truth.specs.Certificates.{claim_of, least_of}
 use Rattle.pesp_judges.specs.Lines.{KeepsLineLimits}
 use Rattle.pesp_whole_check.specs.Rooms.{AreOwnWeights, FitsWalks}
-use Rattle.pesp_whole_check.proofs.Limits.{line_limits, small_counts}
+use Rattle.pesp_whole_check.proofs.Limits.{line_limits}
 use Rattle.pesp_whole_check.proofs.Inner.{if_behind}
 use Rattle.pesp_whole_check.proofs.Claims.{for_marks, front_fits, own_weights_there, room_there, told_there, least_few}
 use Rattle.pesp_whole_check.proofs.whole_check.tree_fault.Goals as goal
@@ -62,16 +60,3 @@ returns c =
       c.cycles.ensures.value,
     ) at
     c.in_ok-judge_tree.ensures) content.cycles (claim_of front n (least_of content.answer)) c.requires.nets told
-
-pub new-checker-requires-clause-small : goal.new-checker-requires-clause-small
-new-checker-requires-clause-small c = small_counts (length c.args.instance.now.rows) c.args.certificate.now.cycles
-    c.args.table.now c.requires.nets
-
-pub judge_tree-requires-clause-long : goal.judge_tree-requires-clause-long
-judge_tree-requires-clause-long c = c.requires.long ∙ sym (ap (λ (p : Pesp). length p.rows)
-    c.new-checker.ensures.instance)
-
-pub judge_tree-requires-clause-few : goal.judge_tree-requires-clause-few
-judge_tree-requires-clause-few c =
-    let P : List TreeLine → Type 0 = λ lines. length lines ≤ MOST_LINES in
-    subst P (sym c.tree-lines.ensures.value) c.tree-lines.ensures.limits.lines

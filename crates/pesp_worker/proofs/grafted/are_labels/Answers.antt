@@ -1,6 +1,5 @@
 use Rattle.std.proofs.Common.{ℕ, ◌≡◌, ◌<◌, ◌≤◌, ◌∙◌, refl, arith, List, length, get_or, map}
 use Rattle.std.specs.Prelude.{ℤ, pos}
-use Rattle.std.proofs.lemmas.Grind.{common_steps}
 use Rattle.std.proofs.lemmas.List.{ext_get_or, get_or-map, length-map}
 use Rattle.pesp_worker.proofs.grafted.are_labels.Goals as goal
 
@@ -19,6 +18,3 @@ returns c = (
       c.loop-place-test.false c.loop-place.invariant,
   λ e. refl,
 )
-
-pub loop-place-preserved : goal.loop-place-preserved
-loop-place-preserved c = grind (arith, common_steps)

@@ -1,4 +1,3 @@
-use Rattle.std.proofs.Common.{ap}
 use Rattle.std.specs.Prelude.{Ok, Err}
 use Rattle.pesp_board.proofs.LentAll.{opens_read, lends_told, lends_all, all_lent_board}
 use Rattle.pesp_board.proofs.board.Board.lend_all.Goals as goal
@@ -27,9 +26,3 @@ returns-clause-state c = rw (← c.self.view_is)
     (opens_read c.self.inside.tree c.self.inside.queue c.self.inside.best c.in_ok-nodes.nodes.items
     c.deref.result.now c.deref.ensures.value c.in_ok-nodes.ensures.opens)
     (Ok c.in_ok-jobs.jobs) c.lend_nodes.new.slots.items c.in_ok-jobs.ensures)
-
-pub lend_nodes-requires : goal.lend_nodes-requires
-lend_nodes-requires c = rw (c.deref.ensures.value) c.in_ok-nodes.ensures.within
-
-pub returns-clause-problem : goal.returns-clause-problem
-returns-clause-problem c = ap (λ b. b.problem) c.self.view_is

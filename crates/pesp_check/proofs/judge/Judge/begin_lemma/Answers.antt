@@ -1,16 +1,14 @@
-use Rattle.std.proofs.Common.{rules, ◌≡◌, ◌+◌, ◌∙◌, refl, sym, ap, subst, true≢false, List, Option}
-use Rattle.std.proofs.lemmas.Option.{same_Some}
+use Rattle.std.proofs.Common.{rules, ◌≡◌, ◌+◌, ◌∙◌, refl, ap, subst, List, Option}
 use Rattle.std.specs.Prelude.{option_map}
 use Rattle.pesp_problem.specs.declared.pair.Pair.{Pair}
 use Rattle.pesp_problem.specs.Arcs.{arcs_of}
 use Rattle.pesp_truth.specs.Lemmas.{NamesRows}
 use Rattle.pesp_cert_items.specs.Lent.{pairs_left_in}
-use Rattle.pesp_judges.specs.declared.lemma_judge.LemmaJudge.{LemmaJudge}
 use Rattle.pesp_judges.specs.Showing.{KeptLemma, kept_of_lemma as kept_lemma, rows_kept}
 use Rattle.pesp_check.specs.declared.stage.Stage.TheVariants as stages
-use Rattle.pesp_check.specs.Judging.{Kept, is_front}
+use Rattle.pesp_check.specs.Judging.{Kept}
 use Rattle.pesp_check.specs.Views.{kept}
-use Rattle.pesp_check.proofs.Lists.{no_lemma, few_more}
+use Rattle.pesp_check.proofs.Lists.{no_lemma}
 use Rattle.pesp_check.proofs.LemmaSteps.{lemma_begins, lemma_never, lemma_passed}
 use Rattle.pesp_check.proofs.judge.Judge.begin_lemma.Goals as goal
 
@@ -39,51 +37,3 @@ returns-clause-judged c front c' rest before =
     let L : Option KeptLemma → Kept = λ lemma. record (kept j) { line = j.line + 1; lemma = lemma } in
     lemma_begins j.stage j.instance.now front c' (pairs_left_in c.args.pairs) rest (kept j) (no_lemma j.lemma c.requires.none) at before
     (kept_lemma c.in-Ok.lemma) _ (ap L (ap (option_map kept_lemma) c.replace.ensures.after)) (subst R c.in_ok-fact.ensures found.1) (found.2 ∙ ap (rows_kept (j.line + 1)) c.in_ok-fact.ensures)
-
-pub invariant_of-self : goal.invariant_of-self
-invariant_of-self c =
-    let j = c.args.self.now in
-    record {
-      small = j.small;
-      few = few_more _ _ j.few;
-      begun = j.begun;
-      standing = j.standing;
-      roomy = j.roomy;
-      exist = j.exist;
-      named = j.named;
-      apart = j.apart;
-      shown = j.shown;
-    }
-
-pub invariant_of-self-in-Err : goal.invariant_of-self-in-Err
-invariant_of-self-in-Err c =
-    let j = c.args.self.now in
-    record {
-      small = j.small;
-      few = few_more _ _ j.few;
-      begun = λ b. cc;
-      standing = j.standing;
-      roomy = j.roomy;
-      exist = j.exist;
-      named = j.named;
-      apart = λ f. c.requires.none;
-      shown = j.shown;
-    }
-
-pub invariant_of-self-2 : goal.invariant_of-self-2
-invariant_of-self-2 c =
-    let j = c.args.self.now in
-    let at : j.stage ≡ stages.Front = search rules in
-    let found = rw c.in-Ok.is at c.new.ensures in
-    record {
-      small = j.small;
-      few = few_more _ _ j.few;
-      begun = j.begun;
-      standing = j.standing;
-      roomy = j.roomy;
-      exist = j.exist;
-      named = j.named;
-      apart = λ f. absurd (true≢false (ap is_front (sym at) ∙ f));
-      shown = λ l e. ap (λ (k : LemmaJudge). k.instance.now) (same_Some _ _ (sym e ∙ c.replace.ensures.after))
-          ∙ found.0;
-    }

@@ -1,13 +1,13 @@
-use Rattle.std.proofs.Common.{◌≡◌, ◌∙◌, ap, refl, sym, arith, length, true, false, true≢false}
+use Rattle.std.proofs.Common.{◌≡◌, ◌∙◌, ap, refl, sym, subst, arith, length, List}
 use Rattle.std.specs.Prelude.{min, is_some, All}
+use Rattle.pesp_problem.specs.declared.arc.Arc.{Arc}
 use Rattle.pesp_problem.specs.Arcs.{arcs_of}
+use Rattle.pesp_problem.specs.Walks.{RowExists}
 use Rattle.pesp_problem.specs.Marked.{IsMarkedWalk}
 use Rattle.pesp_truth.specs.Marks.{Marks}
 use Rattle.pesp_judges.specs.Pending.{Standing}
 use Rattle.pesp_judges.specs.Faults.{IsMarkFault}
 use Rattle.pesp_leaves.specs.Ranges.{node_of}
-use Rattle.pesp_judges.proofs.Telling.{standing_of}
-use Rattle.pesp_check.specs.Judging.{is_front, is_before_tree}
 use Rattle.pesp_check.specs.Views.{kept}
 use Rattle.pesp_whole_check.proofs.Refusing.{of_none}
 use Rattle.pesp_whole_check.proofs.Inner.{if_for, lent_if, lent_and, walks_exist}
@@ -36,58 +36,14 @@ returns-in-Some-clause-judged c front c' rest has b before =
     c.min-cycles.result _ number refl refl
     (lent_and (λ m. m.now) F c.as_ref.result c.front_of.result c.as_ref.ensures.value (rw c.in-Some.is at c.in_ok-found.ensures.verdict))
 
-pub invariant_of-self : goal.invariant_of-self
-invariant_of-self c =
-    let j = c.args.self.now in
-    let none : is_some j.walk ≡ false = j.begun (ap is_before_tree c.requires.stage) in
-    record {
-      small = j.small;
-      few = j.few;
-      begun = j.begun;
-      standing = j.standing;
-      roomy = λ b. absurd (true≢false (sym b ∙ none));
-      exist = λ b. absurd (true≢false (sym b ∙ none));
-      named = j.named;
-      apart = j.apart;
-      shown = j.shown;
-    }
+pub invariant_of-self-2-clause-roomy : goal.invariant_of-self-2-clause-roomy
+invariant_of-self-2-clause-roomy c = λ _ m is. c.in_ok-self.ensures (c.is_some.ensures ∙ ap is_some is)
 
-pub invariant_of-self-in-Some : goal.invariant_of-self-in-Some
-invariant_of-self-in-Some c =
-    let j = c.args.self.now in
-    let none : is_some j.walk ≡ false = j.begun (ap is_before_tree c.requires.stage) in
-    record {
-      small = j.small;
-      few = j.few;
-      begun = λ b. none;
-      standing = j.standing;
-      roomy = λ b. absurd (true≢false (sym b ∙ none));
-      exist = λ b. absurd (true≢false (sym b ∙ none));
-      named = j.named;
-      apart = λ f. j.apart (ap is_front c.requires.stage);
-      shown = j.shown;
-    }
-
-pub invariant_of-self-2 : goal.invariant_of-self-2
-invariant_of-self-2 c =
-    let j = c.args.self.now in
-    let p = j.instance.now in
+pub invariant_of-self-2-clause-exist : goal.invariant_of-self-2-clause-exist
+invariant_of-self-2-clause-exist c = λ _ m is.
+    let p = c.args.self.now.instance.now in
     let C : Marks → Type 0 = λ m. All (IsMarkedWalk (arcs_of p)) m.walks in
     let closed = lent_if (λ m. m.now) C c.as_ref.result c.front_of.result c.as_ref.ensures.value
     (of_none c.in_ok-found.found _ _ c.in_default.not-Some c.in_ok-found.ensures.verdict) in
-    let cycles = c.in_ok-ranges.ensures.cycles ∙ ap length c.deref.ensures.value in
-    record {
-      small = j.small;
-      few = j.few;
-      begun = λ b. cc;
-      standing = λ x e. standing_of _ _ c.new-2.result x e (ap (λ (s : Standing). s.problem) c.new-2.ensures)
-          (ap (λ (s : Standing). s.cycles) c.new-2.ensures ∙ cycles);
-      roomy = λ b m is. c.in_ok-self.ensures (c.is_some.ensures ∙ ap is_some is);
-      exist = λ b m is. (
-          let fits = c.in_ok-self.ensures (c.is_some.ensures ∙ ap is_some is) in
-          if_for c.front_of.result _ (walks_exist c.front_of.result _ (arcs_of p) fits.arcs closed) m is
-          );
-      named = j.named;
-      apart = λ f. j.apart (ap is_front c.requires.stage);
-      shown = j.shown;
-    }
+    let fits = c.in_ok-self.ensures (c.is_some.ensures ∙ ap is_some is) in
+    if_for c.front_of.result _ (walks_exist c.front_of.result _ (arcs_of p) fits.arcs closed) m is

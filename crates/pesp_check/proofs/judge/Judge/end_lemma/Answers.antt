@@ -1,5 +1,5 @@
-use Rattle.std.proofs.Common.{◌≡◌, ◌∙◌, ◌++◌, ◌∷◌, [], List, Option, None, ap, sym, subst, true, true≢false, length}
-use Rattle.std.specs.Prelude.{All, option_map, is_some}
+use Rattle.std.proofs.Common.{◌≡◌, ◌∙◌, ◌++◌, ◌∷◌, [], List, Option, None, ap, sym, subst, true, length}
+use Rattle.std.specs.Prelude.{All, option_map}
 use Rattle.pesp_problem.specs.Timetables.{Pesp}
 use Rattle.pesp_problem.specs.Walks.{Names}
 use Rattle.pesp_truth.specs.Lemmas.{Lemma as Fact}
@@ -22,35 +22,10 @@ returns-clause-judged c front c' rest has before =
     (ap (option_map kept_lemma) (sym c.take.ensures.value ∙ c.in-Some.is)) before _ ends
     (ap L (ap (option_map kept_lemma) c.take.ensures.after) ∙ ap K facts)
 
-pub invariant_of-self : goal.invariant_of-self
-invariant_of-self c =
-    let j = c.args.self.now in
-    record {
-      small = j.small;
-      few = j.few;
-      begun = j.begun;
-      standing = j.standing;
-      roomy = j.roomy;
-      exist = j.exist;
-      named = j.named;
-      apart = λ f. ap is_some c.take.ensures.after;
-      shown = λ l e. absurd (true≢false (sym (ap is_some e) ∙ ap is_some c.take.ensures.after));
-    }
-
-pub invariant_of-self-2 : goal.invariant_of-self-2
-invariant_of-self-2 c =
+pub invariant_of-self-2-clause-named : goal.invariant_of-self-2-clause-named
+invariant_of-self-2-clause-named c =
     let j = c.args.self.now in
     let weights = c.into_lemma.result.weights in
     let N : Pesp → Type 0 = λ p. All (λ pair. Names (length p.rows) pair.cycle) weights in
     let same = j.shown c.in-Some.lemma (sym c.take.ensures.value ∙ c.in-Some.is) in
-    record {
-      small = j.small;
-      few = j.few;
-      begun = j.begun;
-      standing = j.standing;
-      roomy = j.roomy;
-      exist = j.exist;
-      named = c.add_fact.ensures.rows (length j.instance.now.rows) j.named (subst N same c.into_lemma.ensures.rows);
-      apart = λ f. ap is_some c.take.ensures.after;
-      shown = λ l e. absurd (true≢false (sym (ap is_some e) ∙ ap is_some c.take.ensures.after));
-    }
+    c.add_fact.ensures.rows (length j.instance.now.rows) j.named (subst N same c.into_lemma.ensures.rows)

@@ -1,4 +1,4 @@
-use Rattle.std.proofs.Common.{◌≡◌, arith, ◌+◌, ◌∙◌, refl, sym, ap, subst, length, List, Some, true, false}
+use Rattle.std.proofs.Common.{arith, ◌+◌, ◌∙◌, refl, sym, ap, subst, length, List, Some}
 use Rattle.std.specs.Prelude.{option_map}
 use Rattle.std.specs.Option.{is_some}
 use Rattle.pesp_problem.specs.Arcs.{net_of}
@@ -11,15 +11,13 @@ use Rattle.pesp_truth.specs.Certificates.{least_of}
 use Rattle.pesp_leaves.specs.Taken.{HaveRows}
 use Rattle.pesp_judges.specs.Lines.{IsLineVerdict}
 use Rattle.pesp_whole_check.specs.Rooms.{AreOwnWeights, FitsWalks, claim_from}
-use Rattle.pesp_judges.proofs.Telling.{standing_of, written_long}
-use Rattle.pesp_check.specs.Judging.{is_front}
 use Rattle.pesp_check.specs.Said.{pairs_of, tree_line}
 use Rattle.pesp_check.specs.Views.{kept}
 use Rattle.pesp_whole_check.proofs.Claims.{walks_fit}
 use Rattle.pesp_whole_check.proofs.Refusing.{of_none}
 use Rattle.pesp_whole_check.proofs.Inner.{lent_for}
-use Rattle.pesp_check.proofs.Lists.{said_is, few_more}
-use Rattle.pesp_check.proofs.Lines.{nets_are, answer_is, never_done, line_told, whole_text, few_cycles, few_least}
+use Rattle.pesp_check.proofs.Lists.{said_is}
+use Rattle.pesp_check.proofs.Lines.{nets_are, answer_is, never_done, never_gone, line_told, whole_text, few_cycles, few_least}
 use Rattle.pesp_check.proofs.judge.Judge.judge_line.Goals as goal
 
 pub returns-then-is_done-clause-judged : goal.returns-then-is_done-clause-judged
@@ -107,138 +105,3 @@ returns-clause-judged c front c' rest has before =
     (record (kept j) { line = j.line + 1; walk = Some walk }) (kept j)
     c.in-Some.is c.as_ref-marks.ensures.value c.deref.ensures.value refl (whole_text front c' has) refl refl refl
     (subst V (said_is pairs_of c.args.said) told))
-
-pub invariant_of-self : goal.invariant_of-self
-invariant_of-self c =
-    let j = c.args.self.now in
-    record {
-      small = j.small;
-      few = few_more _ _ j.few;
-      begun = j.begun;
-      standing = j.standing;
-      roomy = j.roomy;
-      exist = j.exist;
-      named = j.named;
-      apart = j.apart;
-      shown = j.shown;
-    }
-
-pub invariant_of-self-in_default : goal.invariant_of-self-in_default
-invariant_of-self-in_default c =
-    let j = c.args.self.now in
-    record {
-      small = j.small;
-      few = few_more _ _ j.few;
-      begun = j.begun;
-      standing = j.standing;
-      roomy = j.roomy;
-      exist = j.exist;
-      named = j.named;
-      apart = j.apart;
-      shown = j.shown;
-    }
-
-pub invariant_of-self-then-is_done : goal.invariant_of-self-then-is_done
-invariant_of-self-then-is_done c =
-    let j = c.args.self.now in
-    let some : is_some j.walk ≡ true = ap is_some c.in-Some.is in
-    record {
-      small = j.small;
-      few = few_more _ _ j.few;
-      begun = λ b. sym some ∙ j.begun b;
-      standing = rw c.in-Some.is at j.standing;
-      roomy = λ b. j.roomy some;
-      exist = λ b. j.exist some;
-      named = j.named;
-      apart = j.apart;
-      shown = j.shown;
-    }
-
-pub invariant_of-self-in-Some-found : goal.invariant_of-self-in-Some-found
-invariant_of-self-in-Some-found c =
-    let j = c.args.self.now in
-    let w = c.take_line.new.walk in
-    let new = c.take_line.new.rates in
-    let old = j.room.rates in
-    let some : is_some j.walk ≡ true = ap is_some c.in-Some.is in
-    let given : length c.deref_mut.result.now ≡ length old.items = ap length c.deref_mut.ensures.value in
-    let long : length new ≡ length old.items = c.take_line.auto.rates ∙ given in
-    let table : length c.new-checker.result.table.now ≡ length c.deref-4.result.now =
-    ap length c.new-checker.ensures.table in
-    let items : length c.deref-4.result.now ≡ length j.table.items = ap length c.deref-4.ensures.value in
-    let cycles : w.cycles ≡ length j.table.items = c.take_line.ensures.cycles ∙ table ∙ items in
-    let problem : w.problem ≡ j.instance.now = c.take_line.ensures.problem ∙ c.new-checker.ensures.instance in
-    record {
-      small = j.small;
-      few = few_more _ _ j.few;
-      begun = λ b. cc;
-      standing = λ x e. standing_of _ _ w x e problem cycles;
-      roomy = λ b m is. (
-          let h = j.roomy some m is in
-          record {
-            arcs = h.arcs;
-            weights = h.weights;
-            small = h.small;
-            rates = written_long old.len new old.items old.ok.0 long ∙ h.rates;
-          }
-          );
-      exist = λ b. j.exist some;
-      named = j.named;
-      apart = λ f. j.apart (ap is_front c.requires.stage);
-      shown = j.shown;
-    }
-
-pub invariant_of-self-in_default-found : goal.invariant_of-self-in_default-found
-invariant_of-self-in_default-found c =
-    let j = c.args.self.now in
-    let w = c.take_line.new.walk in
-    let new = c.take_line.new.rates in
-    let old = j.room.rates in
-    let some : is_some j.walk ≡ true = ap is_some c.in-Some.is in
-    let given : length c.deref_mut.result.now ≡ length old.items = ap length c.deref_mut.ensures.value in
-    let long : length new ≡ length old.items = c.take_line.auto.rates ∙ given in
-    let table : length c.new-checker.result.table.now ≡ length c.deref-4.result.now =
-    ap length c.new-checker.ensures.table in
-    let items : length c.deref-4.result.now ≡ length j.table.items = ap length c.deref-4.ensures.value in
-    let cycles : w.cycles ≡ length j.table.items = c.take_line.ensures.cycles ∙ table ∙ items in
-    let problem : w.problem ≡ j.instance.now = c.take_line.ensures.problem ∙ c.new-checker.ensures.instance in
-    record {
-      small = j.small;
-      few = few_more _ _ j.few;
-      begun = λ b. sym some ∙ j.begun b;
-      standing = λ x e. standing_of _ _ w x e problem cycles;
-      roomy = λ b m is. (
-          let h = j.roomy some m is in
-          record {
-            arcs = h.arcs;
-            weights = h.weights;
-            small = h.small;
-            rates = written_long old.len new old.items old.ok.0 long ∙ h.rates;
-          }
-          );
-      exist = λ b. j.exist some;
-      named = j.named;
-      apart = j.apart;
-      shown = j.shown;
-    }
-
-pub new-checker-requires-clause-small : goal.new-checker-requires-clause-small
-new-checker-requires-clause-small c = rw c.deref-4.ensures.value c.args.self.now.small
-
-pub take_line-requires-clause-problem : goal.take_line-requires-clause-problem
-take_line-requires-clause-problem c =
-    (c.args.self.now.standing c.in-Some.walk c.in-Some.is).0 ∙ sym c.new-checker.ensures.instance
-
-pub take_line-requires-clause-cycles : goal.take_line-requires-clause-cycles
-take_line-requires-clause-cycles c =
-    (c.args.self.now.standing c.in-Some.walk c.in-Some.is).1
-    ∙ sym (ap length c.new-checker.ensures.table ∙ ap length c.deref-4.ensures.value)
-
-pub take_line-requires-clause-open : goal.take_line-requires-clause-open
-take_line-requires-clause-open c e =
-    let done : c.is_done.result ≡ true = c.is_done.ensures.1 e in
-    let waits : c.is_done.result ≡ false = c.if-is_done.false in
-    cc
-
-pub take_line-requires-clause-long : goal.take_line-requires-clause-long
-take_line-requires-clause-long c = rw c.new-checker.ensures.instance c.requires.long

@@ -1,10 +1,9 @@
-use Rattle.std.proofs.Common.{◌≡◌, ◌+◌, arith, ap, refl, sym, subst, length, false, List, true≢false, ◌∙◌}
-use Rattle.pesp_check.specs.Judging.{JudgedAt, is_before_tree, is_front}
+use Rattle.std.proofs.Common.{◌≡◌, ◌+◌, arith, ap, refl, sym, subst, length, true, List, true≢false, ◌∙◌}
+use Rattle.pesp_check.specs.Judging.{JudgedAt, is_before_tree}
 use Rattle.pesp_check.specs.Views.{kept}
 use Rattle.std.specs.Option.{is_some}
 use Rattle.pesp_problem.specs.declared.nets.NetCount.{NetCount}
 use Rattle.pesp_cert_items.specs.Lent.{rows_in}
-use Rattle.pesp_check.proofs.Lists.{few_added, few_more}
 use Rattle.pesp_check.proofs.Cycles.{walk_taken, walk_refused}
 use Rattle.pesp_check.proofs.judge.Judge.judge_walk.Goals as goal
 
@@ -26,49 +25,14 @@ returns-clause-judged c front c' rest before =
     (walk_taken j.instance.now front c' (rows_in c.args.rows) rest
     (kept j) j.stage c.requires.stage before c.in-Ok.nets _ refl found.0 found.1)
 
-pub invariant_of-self-2 : goal.invariant_of-self-2
-invariant_of-self-2 c =
-    let j = c.args.self.now in
+pub invariant_of-self-2-clause-standing : goal.invariant_of-self-2-clause-standing
+invariant_of-self-2-clause-standing c x e =
+    let stage : is_before_tree c.args.self.now.stage ≡ true = ap is_before_tree c.requires.stage in
+    let none = c.args.self.now.begun stage in
+    let some : is_some c.args.self.now.walk ≡ true = ap is_some e in
+    absurd (true≢false (sym some ∙ none))
+
+pub invariant_of-self-2-clause-small : goal.invariant_of-self-2-clause-small
+invariant_of-self-2-clause-small c =
     let found = rw c.in-Ok.is at c.in_ok-nets.ensures.verdict in
-    let none : is_some j.walk ≡ false = j.begun (ap is_before_tree c.requires.stage) in
-    record {
-      small = c.add_nets.ensures.small (length j.instance.now.rows) j.small found.1.small;
-      few = few_added _ _ _ c.add_nets.ensures.long j.few;
-      begun = j.begun;
-      standing = λ x e. absurd (true≢false (sym (ap is_some e) ∙ none));
-      roomy = j.roomy;
-      exist = j.exist;
-      named = j.named;
-      apart = j.apart;
-      shown = j.shown;
-    }
-
-pub invariant_of-self : goal.invariant_of-self
-invariant_of-self c =
-    let j = c.args.self.now in
-    record {
-      small = j.small;
-      few = few_more _ _ j.few;
-      begun = j.begun;
-      standing = j.standing;
-      roomy = j.roomy;
-      exist = j.exist;
-      named = j.named;
-      apart = j.apart;
-      shown = j.shown;
-    }
-
-pub invariant_of-self-in-Err : goal.invariant_of-self-in-Err
-invariant_of-self-in-Err c =
-    let j = c.args.self.now in
-    record {
-      small = j.small;
-      few = few_more _ _ j.few;
-      begun = λ b. cc;
-      standing = j.standing;
-      roomy = j.roomy;
-      exist = j.exist;
-      named = j.named;
-      apart = λ f. j.apart (ap is_front c.requires.stage);
-      shown = j.shown;
-    }
+    c.add_nets.ensures.small (length c.args.self.now.instance.now.rows) c.args.self.now.small found.1.small

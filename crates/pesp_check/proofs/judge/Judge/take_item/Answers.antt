@@ -3,7 +3,7 @@ use Rattle.pesp_check.specs.Judging.{JudgedAt}
 use Rattle.pesp_check.specs.Views.{kept}
 use Rattle.std.specs.Prelude.{ℤ, ℕ}
 use Rattle.std.proofs.lemmas.Int.{to_z-of_z}
-use Rattle.pesp_check.proofs.Lists.{no_lemma, few_more}
+use Rattle.pesp_check.proofs.Lists.{no_lemma}
 use Rattle.pesp_check.proofs.Fronts.{version_taken, period_taken, answer_taken, time_taken}
 use Rattle.pesp_check.proofs.judge.Judge.take_item.Goals as goal
 
@@ -29,63 +29,3 @@ returns-in_ok-push-in-Time-clause-judged c front c' rest has before =
     let pushed = rw (to_z-of_z w64 c.in-Time.label fits) at c.in_ok-push-in-Time.ensures.items in
     let P : List (ℤ × ℕ) → Type 0 = λ ts. JudgedAt j.stage j.instance.now front c' rest (record (kept j) { line = j.line + 1; times = ts }) in
     subst P (sym pushed) (time_taken j.stage j.instance.now front c' rest (kept j) (no_lemma j.lemma c.requires.none) c.in-Time.label c.in-Time.time (rw c.in-Time.is at before))
-
-pub invariant_of-self : goal.invariant_of-self
-invariant_of-self c =
-    let j = c.args.self.now in
-    record {
-      small = j.small;
-      few = few_more _ _ j.few;
-      begun = j.begun;
-      standing = j.standing;
-      roomy = j.roomy;
-      exist = j.exist;
-      named = j.named;
-      apart = j.apart;
-      shown = j.shown;
-    }
-
-pub invariant_of-self-in-Period : goal.invariant_of-self-in-Period
-invariant_of-self-in-Period c =
-    let j = c.args.self.now in
-    record {
-      small = j.small;
-      few = few_more _ _ j.few;
-      begun = j.begun;
-      standing = j.standing;
-      roomy = j.roomy;
-      exist = j.exist;
-      named = j.named;
-      apart = j.apart;
-      shown = j.shown;
-    }
-
-pub invariant_of-self-in-Answer : goal.invariant_of-self-in-Answer
-invariant_of-self-in-Answer c =
-    let j = c.args.self.now in
-    record {
-      small = j.small;
-      few = few_more _ _ j.few;
-      begun = j.begun;
-      standing = j.standing;
-      roomy = j.roomy;
-      exist = j.exist;
-      named = j.named;
-      apart = j.apart;
-      shown = j.shown;
-    }
-
-pub invariant_of-self-in-Time : goal.invariant_of-self-in-Time
-invariant_of-self-in-Time c =
-    let j = c.args.self.now in
-    record {
-      small = j.small;
-      few = few_more _ _ j.few;
-      begun = j.begun;
-      standing = j.standing;
-      roomy = j.roomy;
-      exist = j.exist;
-      named = j.named;
-      apart = j.apart;
-      shown = j.shown;
-    }

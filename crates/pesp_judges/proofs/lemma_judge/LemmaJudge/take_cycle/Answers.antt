@@ -1,6 +1,4 @@
-use Rattle.std.proofs.Common.{◌≡◌, ◌∙◌, ◌+◌, ◌<◌, arith, ap, refl, sym, subst, length, List, true, false}
-use Rattle.std.specs.Prelude.{is_some}
-use Rattle.pesp_problem.specs.declared.limits.TheConstants.{MOST_CYCLES}
+use Rattle.std.proofs.Common.{◌≡◌, ◌+◌, arith, refl, sym, subst, length, List}
 use Rattle.pesp_problem.specs.declared.nets.NetCount.{NetCount}
 use Rattle.pesp_judges.specs.Showing.{kept_of_lemma, CyclesShown}
 use Rattle.pesp_judges.proofs.Telling.{cycle_shown, cycle_fault}
@@ -21,22 +19,7 @@ returns-in_ok-add_nets-in-Ok-clause-verdict g c s at k limits before within is l
     subst P (sym c.in_ok-add_nets-in-Ok.ensures.items)
     (cycle_shown j.instance.now s at (kept_of_lemma j) k before within (g.R.Elements.elements c.args.rows) is c.in-Ok.nets _ refl found.0 found.1)
 
-pub invariant_of-self-in-Ok : goal.invariant_of-self-in-Ok
-invariant_of-self-in-Ok g c =
-    let j = c.args.self.now in
+pub invariant_of-self-in-Ok-clause-small : goal.invariant_of-self-in-Ok-clause-small
+invariant_of-self-in-Ok-clause-small g c =
     let found = rw c.in-Ok.is at c.in_ok-nets.ensures.verdict in
-    let none : is_some j.walk ≡ false = sym c.is_some.ensures ∙ c.if-is_some.false in
-    let few : c.len.result < MOST_CYCLES = c.if-len-ge-MOST_CYCLES.false in
-    record {
-      rows = j.rows;
-      at = j.at;
-      few = (let l = j.table.ok.0 in omega (arith, few, c.len.ensures, c.add_nets.ensures.long));
-      small = c.add_nets.ensures.small (length j.instance.now.rows) j.small found.1.small;
-      standing = λ x e. (let some : is_some j.walk ≡ true = ap is_some e in cc);
-      same = j.same;
-      exist = j.exist;
-      long = j.long;
-      light = j.light;
-      placed = j.placed;
-      wide = j.wide;
-    }
+    c.add_nets.ensures.small (length c.args.self.now.instance.now.rows) c.args.self.now.small found.1.small

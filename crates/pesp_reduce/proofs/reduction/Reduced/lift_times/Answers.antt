@@ -1,6 +1,5 @@
-use Rattle.std.proofs.Common.{◌≡◌, ◌<◌, ℕ, List, length, get_or, ap, sym, ◌∙◌, subst, arith}
+use Rattle.std.proofs.Common.{◌≡◌, ◌<◌, ℕ, length, sym, subst, arith}
 use Rattle.std.specs.Prelude.{slice_index}
-use Rattle.std.proofs.lemmas.List.{get_or_default}
 use Rattle.std.proofs.lemmas.Grind.{common_steps}
 use Rattle.pesp_problem.specs.Timetables.{IsTimetable, slack, cost, row_at}
 use Rattle.pesp_problem.specs.Arcs.{arc_slack}
@@ -96,19 +95,3 @@ timetable_of-requires-clause-count c = grind (arith, common_steps)
 
 pub timetable_of-requires-clause-below : goal.timetable_of-requires-clause-below
 timetable_of-requires-clause-below c = grind (arith, common_steps)
-
-pub lifted_slacks-requires-clause-stands : goal.lifted_slacks-requires-clause-stands
-lifted_slacks-requires-clause-stands c k d l =
-    let stands = c.self.inside.contraction.stands.items in
-    let standing = c.self.invariant.contraction.standing in
-    let value = c.as_slice-stands.ensures.value in
-    let size = ap length value in
-    let within : k < length stands = omega (arith, l, size) in
-    let sized = standing.stands_count in
-    let below = standing.stands_below k (omega (arith, within, sized)) in
-    let place : get_or c.as_slice-stands.result.now k d ≡ slice_index stands k =
-    ap (λ (xs : List ℕ). get_or xs k d) value ∙ get_or_default stands k d 0 within in
-    let events = c.self.invariant.events in
-    let same = ap (λ (r : ReducedValue). r.network.events) c.self.view_is in
-    let count = c.requires.count in
-    omega (arith, place, below, events, same, count)

@@ -1,8 +1,8 @@
-use Rattle.std.proofs.Common.{◌≡◌, ◌<◌, length, sym, ap, subst}
+use Rattle.std.proofs.Common.{◌≡◌, ◌<◌, length, sym, ap, subst, arith}
+use Rattle.std.proofs.lemmas.Grind.{common_steps}
 use Rattle.std.specs.List.{Contains}
 use Rattle.pesp_tree.specs.Entries.{entry, item_at, HasItem}
-use Rattle.pesp_tree.proofs.Limits.{limits}
-use Rattle.pesp_tree.proofs.Placing.{contained_before, not_before, has_before}
+use Rattle.pesp_tree.proofs.Placing.{contained_before, not_before}
 use Rattle.pesp_tree.proofs.queue.Queue.waiting_value.Goals as goal
 
 pub returns-clause-value : goal.returns-clause-value
@@ -26,19 +26,4 @@ returns-then-at-self-clause-value c = λ has.
     (subst (λ l. HasItem l item) (sym (ap (λ q. q.waiting) c.self.view_is)) has)
 
 pub returns-in_err-at-clause-value : goal.returns-in_err-at-clause-value
-returns-in_err-at-clause-value c = rw (c.from_residual.ensures) (λ has.
-    c.in_err-at.ensures (subst (λ l. HasItem l c.args.item) (sym c.deref.ensures.value)
-    (has_before c.self.inside.entries.items c.self.inside.waiting c.args.item c.self.invariant.within
-    (subst (λ l. HasItem l c.args.item) (sym (ap (λ q. q.waiting) c.self.view_is)) has))))
-
-pub find-requires : goal.find-requires
-find-requires c = rw (c.deref.ensures.value, c.deref-2.ensures.value) c.self.invariant.placed
-
-pub returns-clause-limits : goal.returns-clause-limits
-returns-clause-limits c = limits _ _ _ _ _ c.self.invariant _ c.self.view_is
-
-pub returns-then-at-self-clause-limits : goal.returns-then-at-self-clause-limits
-returns-then-at-self-clause-limits c = limits _ _ _ _ _ c.self.invariant _ c.self.view_is
-
-pub returns-in_err-at-clause-limits : goal.returns-in_err-at-clause-limits
-returns-in_err-at-clause-limits c = limits _ _ _ _ _ c.self.invariant _ c.self.view_is
+returns-in_err-at-clause-value c = grind (arith, common_steps)

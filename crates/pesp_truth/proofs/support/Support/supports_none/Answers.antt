@@ -1,7 +1,7 @@
-use Rattle.std.proofs.Common.{◌≡◌, ◌∙◌, ap, sym, arith, length}
+use Rattle.std.proofs.Common.{◌≡◌, ◌∙◌, ap, arith, length}
 use Rattle.std.specs.Prelude.{IsTrue}
 use Rattle.pesp_truth.specs.Sets.{family_at}
-use Rattle.pesp_truth.proofs.Labelling.{whole, whole_long, ready_as}
+use Rattle.pesp_truth.proofs.Labelling.{whole}
 use Rattle.pesp_truth.proofs.Starting.{wide_start, wide_at, start_at, exact_at}
 use Rattle.pesp_truth.proofs.support.Support.supports_none.Goals as goal
 
@@ -26,15 +26,3 @@ returns-clause-exact c =
     c.args.self.now c.deref-2.ensures.value (ap length c.deref_mut-3.ensures.value
     ∙ c.self.invariant.marks_before) c.self.view_is
     c.is_emptied.ensures
-
-pub invariant_of-self : goal.invariant_of-self
-invariant_of-self c =
-    let s = c.self.inside in
-    ready_as _ s.firsts.items _ _ _ _ _ _
-    (whole_long s.words.len (length s.words.items) c.is_emptied.new.words _ (c.is_emptied.auto.words
-    ∙ c.deref_mut-2.ensures.len) (sym c.deref_mut.ensures.len ∙ ap length c.deref_mut.ensures.value))
-    (whole_long s.before.len (length s.before.items) c.is_emptied.new.before _ (c.is_emptied.auto.before
-    ∙ c.deref_mut-3.ensures.len) (sym c.deref_mut-3.ensures.len ∙ ap length c.deref_mut-3.ensures.value))
-    (whole_long s.now.len (length s.now.items) c.is_emptied.new.now _ (c.is_emptied.auto.now
-    ∙ c.deref_mut-4.ensures.len) (sym c.deref_mut-4.ensures.len ∙ ap length c.deref_mut-4.ensures.value))
-    c.self.invariant

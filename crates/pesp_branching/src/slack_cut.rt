@@ -89,7 +89,7 @@ fn shuts_a_part(
 
 /// A cut of slacks in the middle of a range, one of whose parts propagation shuts: the first such cut from the widest range
 /// down. None where no look finds one, or no row that is left has two slacks.
-pub fn narrow(
+pub(crate) fn narrow(
     alloc: Global,
     network: &Network,
     reduced: &Reduced,

@@ -236,29 +236,6 @@ fn levels_of(alloc: Global, prices: &[i64]) -> Result<Vec<usize>, AllocError> {
     Ok(levels)
 }
 
-/// Sets flows and what they cost at a node, and begins with these rows; whether that can be: each cycle has a row of its own, and
-/// no number would pass 64 bits.
-fn begin(
-    alloc: Global,
-    basis: &mut Basis,
-    frame: &Frame,
-    problem: &Problem,
-    node: &Node,
-    owns: &[Option<Own>],
-    flows: &[i64],
-) -> Result<bool, AllocError>
-    requires { IsNodeOf problem.now node.now }
-{
-    let are_set = set_flows(basis, flows).is_some()
-        && set_slacks(basis, frame, problem, node).is_some()
-        && set_offsets(basis, frame, problem, node, owns).is_some();
-    if !are_set {
-        return Ok(false);
-    }
-    let rows = rows_in_order(alloc, problem, owns)?;
-    Ok(basis.start(alloc, frame, &rows)?.is_some())
-}
-
 /// A circulation of pairs on a problem's rows, with what flow on them costs at a node; None where a cycle has no row of its
 /// own, or where numbers would pass 64 bits.
 fn circulation_of(
@@ -272,25 +249,20 @@ fn circulation_of(
 ) -> Result<Option<Basis>, AllocError>
     requires { IsNodeOf problem.now node.now }
 {
-    let mut flows = vec![in alloc; 0i64; problem.arcs().len()]?;
-    if add_pairs(&mut flows, problem.table(), start).is_none() {
-        return Ok(None);
-    }
     let mut basis = Basis::idle(alloc, frame)?;
     if !weighted {
         basis.clear_weights();
     }
-    match begin(alloc, &mut basis, frame, problem, node, owns, &flows) {
-        Ok(true) => Ok(Some(basis)),
-        Ok(false) => {
-            drop(basis);
-            Ok(None)
-        }
-        Err(refused) => {
-            drop(basis);
-            Err(refused)
-        }
+    let mut flows = vec![in alloc; 0i64; problem.arcs().len()]?;
+    let are_flows = add_pairs(&mut flows, problem.table(), start).is_some()
+        && set_flows(&mut basis, &flows).is_some();
+    let are_costs = set_slacks(&mut basis, frame, problem, node).is_some()
+        && set_offsets(&mut basis, frame, problem, node, owns).is_some();
+    let rows = rows_in_order(alloc, problem, owns)?;
+    if !are_flows || !are_costs || basis.start(alloc, frame, &rows)?.is_none() {
+        return Ok(None);
     }
+    Ok(Some(basis))
 }
 
 /// The pairs of a circulation where its pivots ended.
@@ -330,7 +302,5 @@ pub fn propose(
         return Ok(nothing_proposed(alloc));
     };
     let ended = basis.solve(&frame, rounds);
-    let proposal = proposal_of(alloc, &owns, &basis, ended);
-    drop(basis);
-    Ok(proposal?)
+    Ok(proposal_of(alloc, &owns, &basis, ended)?)
 }

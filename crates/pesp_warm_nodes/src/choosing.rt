@@ -1,10 +1,9 @@
 //! Which cut a node is split by: trials of a few exchanges in both parts (Applegate et al. 1995), and what cuts gained so far
 //! (pseudo-costs: Bénichou et al. 1971).
 
-use crate::sharpening::Sharpening;
-use pesp_offset_tree::{Candidate, worth_trying};
-use pesp_sharp_nodes::{BoundSense, Limit, UNIT};
-use pesp_warm_nodes::Shared;
+use crate::shared::Shared;
+use pesp_offset_tree::{Candidate, PseudoCosts, worth_trying};
+use pesp_sharp_nodes::{BoundSense, Limit, Setting, UNIT};
 use std::alloc::AllocError;
 
 /// How many exchanges a trial has in each part.
@@ -27,52 +26,41 @@ const NO_BETTER: u32 = 4;
 /// What is added to each gain before they are multiplied, in 1/2^20.
 const LEAST_GAIN: i128 = 1 << 10;
 
-impl Sharpening {
-    /// Notes what a part of a cut gained, in 1/2^20.
-    pub(crate) fn note(&mut self, candidate: Candidate, side: BoundSense, gain: i128) {
-        let Candidate { cut, fraction, .. } = candidate;
-        let outside = match side {
-            BoundSense::AtMost => fraction,
-            BoundSense::AtLeast => UNIT.saturating_sub(fraction),
-        };
-        let cycle = self.sharpener.setting.cycle(cut.cycle);
-        let weight = cycle.map_or(0, |it| it.weight);
-        self.experience.note(cut.cycle, side, gain, outside);
-        self.experience.note_by_weight(gain, outside, weight);
-    }
-
+impl Shared {
     /// What a part gains in a few exchanges, in 1/2^20, which is noted.
     fn gain(
         &mut self,
-        shared: &mut Shared,
+        setting: &Setting,
+        experience: &mut PseudoCosts,
         candidate: Candidate,
         side: BoundSense,
         limit: Limit,
     ) -> Result<i128, AllocError> {
-        let before = shared.value();
+        let before = self.value();
         let Candidate { cut, .. } = candidate;
-        let Some(old) = shared.enter_part(&self.sharpener.setting, cut, side)? else {
+        let Some(old) = self.enter_part(setting, cut, side)? else {
             return Ok(0);
         };
-        let end = shared.solve(limit, EXCHANGES)?;
-        let gain = shared.gain_since(before, end, limit);
-        self.note(candidate, side, gain);
-        shared.leave_part(&self.sharpener.setting, cut, old)?;
+        let end = self.solve(limit, EXCHANGES)?;
+        let gain = self.gain_since(before, end, limit);
+        note(setting, experience, candidate, side, gain);
+        self.leave_part(setting, cut, old)?;
         Ok(gain)
     }
 
     /// How good a cut is: the product of what both parts gain, or are expected to gain.
     fn score(
         &mut self,
-        shared: &mut Shared,
+        setting: &Setting,
+        experience: &mut PseudoCosts,
         candidate: Candidate,
         limit: Limit,
     ) -> Result<u128, AllocError> {
-        if self.experience.times_tried(candidate.cut.cycle) >= TRUSTED {
+        if experience.times_tried(candidate.cut.cycle) >= TRUSTED {
             return Ok(candidate.score.saturating_mul(1 << 8));
         }
-        let low = self.gain(shared, candidate, BoundSense::AtMost, limit)?;
-        let high = self.gain(shared, candidate, BoundSense::AtLeast, limit)?;
+        let low = self.gain(setting, experience, candidate, BoundSense::AtMost, limit)?;
+        let high = self.gain(setting, experience, candidate, BoundSense::AtLeast, limit)?;
         let below = low.saturating_add(LEAST_GAIN);
         let product = below.saturating_mul(high.saturating_add(LEAST_GAIN));
         Ok(u128::try_from(product).unwrap_or(0))
@@ -81,7 +69,8 @@ impl Sharpening {
     /// The best of some cuts.
     fn best_of(
         &mut self,
-        shared: &mut Shared,
+        setting: &Setting,
+        experience: &mut PseudoCosts,
         list: &[Candidate],
         limit: Limit,
     ) -> Result<Option<Candidate>, AllocError> {
@@ -89,7 +78,7 @@ impl Sharpening {
         let mut most = 0u128;
         let mut no_better = 0u32;
         for candidate in list {
-            let score = self.score(shared, *candidate, limit)?;
+            let score = self.score(setting, experience, *candidate, limit)?;
             if best.is_none() || score > most {
                 best = Some(*candidate);
                 most = score;
@@ -105,30 +94,47 @@ impl Sharpening {
     }
 
     /// Keeps the node, with lines for the cycles of some cuts.
-    fn keep_for(&self, shared: &mut Shared, list: &[Candidate]) -> Result<(), AllocError> {
+    fn keep_for(&mut self, setting: &Setting, list: &[Candidate]) -> Result<(), AllocError> {
         for candidate in list {
-            shared.keep_line(&self.sharpener.setting, candidate.cut.cycle)?;
+            self.keep_line(setting, candidate.cut.cycle)?;
         }
-        shared.keep_here()
+        self.keep_here()
     }
 
-    /// The cut by which a leaf at a depth is split; None where all its offsets look whole.
-    pub(crate) fn choose_warm(
+    /// The cut by which the node is split; None where all offsets look whole.
+    pub fn choose(
         &mut self,
-        shared: &mut Shared,
+        setting: &Setting,
+        experience: &mut PseudoCosts,
         depth: u32,
         limit: Limit,
     ) -> Result<Option<Candidate>, AllocError> {
-        let setting = &self.sharpener.setting;
-        shared.read_slacks(setting)?;
+        self.read_slacks(setting)?;
         let most = if depth < DEEP { MANY } else { FEW };
-        let ranges = shared.ranges();
-        let slacks = shared.slacks();
-        let list = worth_trying(self.alloc, setting, &self.experience, ranges, slacks, most)?;
-        self.keep_for(shared, &list)?;
+        let ranges = &self.ranges;
+        let list = worth_trying(self.alloc, setting, experience, ranges, &self.slacks, most)?;
+        self.keep_for(setting, &list)?;
         if list.len() < 2 {
             return Ok(list.first().copied());
         }
-        self.best_of(shared, &list, limit)
+        self.best_of(setting, experience, &list, limit)
     }
+}
+
+/// Notes what a part of a cut gained.
+pub fn note(
+    setting: &Setting,
+    experience: &mut PseudoCosts,
+    candidate: Candidate,
+    side: BoundSense,
+    gain: i128,
+) {
+    let Candidate { cut, fraction, .. } = candidate;
+    let outside = match side {
+        BoundSense::AtMost => fraction,
+        BoundSense::AtLeast => UNIT.saturating_sub(fraction),
+    };
+    let weight = setting.cycle(cut.cycle).map_or(0, |it| it.weight);
+    experience.note(cut.cycle, side, gain, outside);
+    experience.note_by_weight(gain, outside, weight);
 }
